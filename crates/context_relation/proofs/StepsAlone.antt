@@ -1,5 +1,6 @@
--- What a step of the relation of a context registers alone, of two types that are left to one goal.
-use Rattle.std.proofs.Common.{◌≡◌, ◌≢◌, ◌⊎◌, inl, inr, ⊎_elim, arith, refl, sym, ap, ◌∙◌, subst, subst₂, [], ◌∷◌, Contains, Some, None}
+-- What a step of the relation of a context does at once: of two types that are left to one goal it registers that alone, of
+-- an error with another type it records that one was met.
+use Rattle.std.proofs.Common.{◌≡◌, ◌≢◌, ◌⊎◌, ◌<◌, inl, inr, ⊎_elim, arith, refl, sym, ap, ◌∙◌, subst, subst₂, [], ◌∷◌, Contains, Some, None}
 use Rattle.std.proofs.Common.{Result, Ok, Err, IsTrue, false}
 use Rattle.std.proofs.lemmas.Bool.{false≢true}
 use Rattle.std.proofs.lemmas.List.Elements.{Contains-append_right}
@@ -15,12 +16,12 @@ use Rattle.relation_semantics.specs.Errors.{itself, HaveNoError}
 use Rattle.relation_semantics.specs.Goals.{Goal, goal_of}
 use Rattle.relation_semantics.specs.Lawful.{State, Manners, RemembersRelated}
 use Rattle.relation_semantics.specs.Parts.{IsFormed}
-use Rattle.relation_semantics.specs.Relation.{IsAlias}
+use Rattle.relation_semantics.specs.Relation.{IsAlias, IsError}
 use Rattle.relation_semantics.specs.Resolving.{formed}
 use Rattle.relation_semantics.specs.Settings.{DefersAliases}
 use Rattle.relation_semantics.proofs.AliasSteps.{reads_once}
-use Rattle.relation_semantics.specs.AskedAlone.{AsksAlone, of_variables, of_alias, subtype_at}
-use Rattle.relation_steps.specs.Alone.{StepRegistersAlone, StepsAlone}
+use Rattle.relation_semantics.specs.AskedAlone.{AsksAlone, of_variables, of_alias, subtype_at, IsNoTyVar}
+use Rattle.relation_steps.specs.Alone.{StepRegistersAlone, StepsAlone, StepsError, StepsAtOnce, RecordsError, LeavesNoPair}
 use Rattle.relation_combining.specs.Combining.{RegistersOne, RegistersNone, TysCombine}
 use Rattle.relation_combining.specs.Combining.{left_error, right_error, is_deferred, left_open, not_registered, not_left}
 use Rattle.context_relation.specs.Stepping.{CombinesTyVars, made_one, left_subtype, right_subtype, goal_refused}
@@ -141,8 +142,65 @@ module _ {Key Id Name : Type 0} (r q : State Key Id Name) where
     read_alone res (not_remembered t h is) = subst (StepRegistersAlone r q (q.meaning).ty ((r.meaning).ty x) p) (sym is)
         (alone (Ok (Done t)) h).1.0
 
+  -- Of an error with another type that is recorded, and nothing else.
+  errors_combine : (a b : TyKey Key) (res : Result (Step (TyKey Key)) (RelateFault Key Id Name)) →
+      IsError ((r.meaning).ty a) ⊎ IsError ((r.meaning).ty b) → TysCombine r q a b res → RecordsError r q × LeavesNoPair res
+  errors_combine a b res o (left_error h t is) = ((t.taints, t.goals), subst LeavesNoPair (sym is) tt)
+  errors_combine a b res o (right_error n h t is) = ((t.taints, t.goals), subst LeavesNoPair (sym is) tt)
+  errors_combine a b res (inl e) (is_deferred z c k i d h is) = absurd (c.0 e)
+  errors_combine a b res (inr e) (is_deferred z c k i d h is) = absurd (c.1 e)
+  errors_combine a b res (inl e) (left_open c k i h is) = absurd (c.0 e)
+  errors_combine a b res (inr e) (left_open c k i h is) = absurd (c.1 e)
+  errors_combine a b res (inl e) (not_registered c k h is) = absurd (c.0 e)
+  errors_combine a b res (inr e) (not_registered c k h is) = absurd (c.1 e)
+  errors_combine a b res (inl e) (not_left c n g h) = absurd (c.0 e)
+  errors_combine a b res (inr e) (not_left c n g h) = absurd (c.1 e)
+
+  shallow_errors : (a b : TyKey Key) (res : Result (Step (TyKey Key)) (RelateFault Key Id Name)) →
+      IsNoTyVar ((r.meaning).ty a) → IsNoTyVar ((r.meaning).ty b) → IsError ((r.meaning).ty a) ⊎ IsError ((r.meaning).ty b) →
+      CombinesShallowTys r q a b res → RecordsError r q × LeavesNoPair res
+  shallow_errors a b res n m o (two_variables i j f g h) = absurd (n i f)
+  shallow_errors a b res n m o (left_bound i z f g h u is) = absurd (n i f)
+  shallow_errors a b res n m o (left_asked i z w f g d h is) = absurd (n i f)
+  shallow_errors a b res n m o (left_unasked i z f g h is) = absurd (n i f)
+  shallow_errors a b res n m o (left_refused i z f g h is) = absurd (n i f)
+  shallow_errors a b res n m o (right_bound i z f g h u is) = absurd (m i f)
+  shallow_errors a b res n m o (right_asked i z w f g d h is) = absurd (m i f)
+  shallow_errors a b res n m o (right_unasked i z f g h is) = absurd (m i f)
+  shallow_errors a b res n m o (right_refused i z f g h is) = absurd (m i f)
+  shallow_errors a b res n m o (no_ty_variables f g h) = errors_combine a b res o h
+
+  -- The same as a pair is read: nothing is remembered, so it is not met again.
+  read_errors : (x y : TyKey Key) → r.remembered ≡ [] →
+      (Combines : Result (Step (TyKey Key)) (RelateFault Key Id Name) → Type 0) →
+      ((res : Result (Step (TyKey Key)) (RelateFault Key Id Name)) → Combines res → RecordsError r q × LeavesNoPair res) →
+      (res : Result (Step (TyKey Key)) (RelateFault Key Id Name)) → StepsRead r q x y Combines res →
+      RecordsError r q × LeavesNoPair res
+  read_errors x y none Combines f res (met_again z l is) =
+      let is_in = subst (λ ps. Contains ps z.pair) none z.is_in in
+      let c : is_in.0 < 0 = is_in.1 in absurd (omega (arith, c))
+  read_errors x y none Combines f res (combined h) = f res h
+  read_errors x y none Combines f res (not_remembered t h is) = ((f (Ok (Done t)) h).0, subst LeavesNoPair (sym is) tt)
+
+  steps_error : (M : Manners) (a b : TyKey Key) (res : Result (Step (TyKey Key)) (RelateFault Key Id Name)) →
+      (one_has_variable r.meaning a b ≡ false → IsFormed ((r.meaning).ty a) × IsFormed ((r.meaning).ty b)) →
+      StepsTys r q a b res → StepsError M r q ((r.meaning).ty a) ((r.meaning).ty b) res
+  steps_error M a b res forms (one_type e l is) promised none differ s t x y f g n m o = absurd (differ e)
+  steps_error M a b res forms (without_variables u e h) promised none differ s t x y f g n m o =
+      let z = forms e in
+      let left = reads_once r.store ((r.meaning).ty a) x ((r.meaning).ty a) f.reads (itself refl) f.shallow (formed z.0) in
+      let right = reads_once r.store ((r.meaning).ty b) y ((r.meaning).ty b) g.reads (itself refl) g.shallow (formed z.1) in
+      read_errors a b none (TysCombine r q a b)
+      (λ p. errors_combine a b p (subst₂ (λ u w. IsError u ⊎ IsError w) left right o)) res h
+  steps_error M a b res forms (resolved_first k l u e f' g' h) promised none differ s t x y f g n m o =
+      let left = reads_once r.store ((r.meaning).ty a) x ((r.meaning).ty k) f.reads (f'.reads).reads f.shallow f'.shallow in
+      let right = reads_once r.store ((r.meaning).ty b) y ((r.meaning).ty l) g.reads (g'.reads).reads g.shallow g'.shallow in
+      read_errors k l none (CombinesShallowTys r q k l)
+      (λ p. shallow_errors k l p (subst IsNoTyVar left n) (subst IsNoTyVar right m)
+      (subst₂ (λ u w. IsError u ⊎ IsError w) left right o)) res h
+
   -- A step of two types registers alone what is asked of them.
-  pub steps_alone : (M : Manners) (a b : TyKey Key) (res : Result (Step (TyKey Key)) (RelateFault Key Id Name)) →
+  steps_alone : (M : Manners) (a b : TyKey Key) (res : Result (Step (TyKey Key)) (RelateFault Key Id Name)) →
       RemembersRelated M r → Extends r.meaning q.meaning → IsTrue (known ((r.meaning).ty a)) →
       (one_has_variable r.meaning a b ≡ false → IsFormed ((r.meaning).ty a) × IsFormed ((r.meaning).ty b)) →
       StepsTys r q a b res → StepsAlone M r q (q.meaning).ty ((r.meaning).ty a) ((r.meaning).ty b) res
@@ -167,3 +225,11 @@ module _ {Key Id Name : Type 0} (r q : State Key Id Name) where
       subst (λ w. StepRegistersAlone r q (q.meaning).ty w p res) (sym left)
       (read_alone M promised related l t' p asked (CombinesShallowTys r q l t')
       (λ r o. shallow_alone l t' r extends (f'.reads).sure p asked o) res h)
+
+  -- What a step of two types does at once.
+  pub steps_at_once : (M : Manners) (a b : TyKey Key) (res : Result (Step (TyKey Key)) (RelateFault Key Id Name)) →
+      RemembersRelated M r → Extends r.meaning q.meaning → IsTrue (known ((r.meaning).ty a)) →
+      (one_has_variable r.meaning a b ≡ false → IsFormed ((r.meaning).ty a) × IsFormed ((r.meaning).ty b)) →
+      StepsTys r q a b res → StepsAtOnce M r q (q.meaning).ty ((r.meaning).ty a) ((r.meaning).ty b) res
+  steps_at_once M a b res related extends k forms h =
+      (steps_alone M a b res related extends k forms h, steps_error M a b res forms h)

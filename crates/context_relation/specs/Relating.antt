@@ -23,6 +23,7 @@
 --   MakesToRelate .. a b                     which variables and universes are made
 --   BuildsNoMore .. a b result               of what all is built that is bound and registered
 --   AnswersAsked .. g e v a b result         two types of which one goal is asked are related by just that goal
+--   TaintsForError .. a b result             of an error with another type that is recorded, and nothing else
 use Rattle.std.specs.Prelude.{◌≡◌, ◌+◌, ◌<◌, ◌≤◌, ℕ, List, [], ◌∷◌, Option, IsTrue, IfOk, Result, Ok, Err}
 use Rattle.std.specs.Global.{Vec}
 use Rattle.term_enums.specs.declared.Variance.{Variance}
@@ -38,7 +39,7 @@ use Rattle.relation_folds.specs.declared.error.RelateFault.TheVariants.{Memory}
 use Rattle.relation_folds.specs.Faults.{IfUnrelated, IfSpent}
 use Rattle.relation_semantics.specs.Stores.{IsTermIn}
 use Rattle.relation_semantics.specs.Goals.{Goal as GoalOf, goals_of, goal_of}
-use Rattle.relation_semantics.specs.Steps.{MakesToInstantiate}
+use Rattle.relation_semantics.specs.Steps.{MakesToInstantiate, Taints}
 use Rattle.relation_semantics.specs.Alphabets.{StaysBuilt}
 use Rattle.relation_semantics.specs.FirstOrder.{IsFirstOrderStore}
 use Rattle.relation_semantics.specs.Outcomes.{NoEqualTerms, Exact, NoUnifier}
@@ -53,7 +54,7 @@ use Rattle.relation_steps.specs.Arguments.{related_tree}
 use Rattle.relation_semantics.specs.Contexts.{Context, DoesNothing, RegistersGoals}
 use Rattle.term_enums.specs.declared.StructurallyRelateAliases.{StructurallyRelateAliases}
 use Rattle.relation_combining.specs.Solving.{solver_settings}
-use Rattle.relation_steps.specs.Alone.{OfAlone}
+use Rattle.relation_steps.specs.Alone.{OfAlone, OfError}
 
 -- What is related of a value in a context.
 abbrev pub term_in : {Key Id Name A : Type 0} → Context Key Id Name → Option Head → (Meaning Key Id Name → A → Tree) →
@@ -180,3 +181,9 @@ module _ {S Key Id Name A : Type 0} (state : S → Context Key Id Name) (old new
       Result (Vec (Goal Key (PredicateKey Key))) (RelateFault Key Id Name) → Type 0
   AnswersAsked g e v a b result = OfAlone (solver_settings g (state old).setup) (state old).store v (term a) (term b)
       (λ t p. AnswersAlone e p result)
+
+  -- Of two different types of which one is an error and none a type variable, as they are read at once, it is recorded that
+  -- an error was met, and nothing else, and no goal is answered. So it is where a growth was refused.
+  abbrev pub TaintsForError : A → A → Result (Vec (Goal Key (PredicateKey Key))) (RelateFault Key Id Name) → Type 0
+  TaintsForError a b result = OfError (state old).store (term a) (term b)
+      (Taints (state old).store (state new).store × IfOk result (λ goals. goals.items ≡ []))

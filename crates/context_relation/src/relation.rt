@@ -8,7 +8,7 @@ ghost use Rattle.context_relation.specs.SolverTerms.{KeepsEnvironment, KeepsGoal
 ghost use Rattle.context_relation.specs.SolverTerms.{SolverAsksWellFormed, SolverIsOver, SolverNotedTys, SolverOpened};
 ghost use Rattle.context_relation.specs.SolverTerms.{SolverRecordsAsked, SolverRecordsConsts, SolverRecordsTys};
 ghost use Rattle.context_relation.specs.SolverTerms.{SolverRegisters, SolverRelatedRegions, SolverRemembersTys};
-ghost use Rattle.context_relation.specs.SolverTerms.{SolverShownTys, SolverStepped, SolverSteps, SolverStepsAlone};
+ghost use Rattle.context_relation.specs.SolverTerms.{SolverShownTys, SolverStepped, SolverSteps, SolverStepsAtOnce};
 ghost use Rattle.context_relation.specs.SolverTerms.{SolverStepsBinders, SolverStepsConsts, SolverStepsRegions};
 ghost use Rattle.context_relation.specs.SolverTerms.{SolverStepsTys, SolverTakes, solver_through};
 
@@ -195,7 +195,7 @@ impl<'a, Infcx: InferCtxtLike> TypeRelation<Infcx::Interner> for SolverRelating<
         requires asked { SolverTakes Infcx.state (λ m. m.ty) self.old a.now b.now }
         ensures stepped { SolverSteps Infcx.state self.old self.new a.now b.now result }
         ensures records { SolverRecordsTys Infcx.state self.old self.new a.now b.now result }
-        ensures registers { SolverStepsAlone Infcx.state self.old self.new a.now b.now result }
+        ensures registers { SolverStepsAtOnce Infcx.state self.old self.new a.now b.now result }
         ensures steps { SolverStepsTys Infcx.state self.old self.new a.now b.now result }
         ensures remembers { SolverRemembersTys Infcx.state self.old self.new a.now b.now result }
     {

@@ -1,4 +1,4 @@
--- What is registered alone of two types that are left to one goal.
+-- What relating does at once of two types: of such as are left to one goal, and of an error with another.
 use Rattle.std.proofs.Common.{◌≡◌, inl, refl, sym, subst}
 use Rattle.std.proofs.Common.{Result, Ok, Err, IsTrue}
 use Rattle.term_enums.specs.declared.Variance.{Variance}
@@ -22,22 +22,25 @@ use Rattle.relation_semantics.specs.Relation.{sort_of}
 use Rattle.relation_semantics.specs.Settings.{Settings}
 use Rattle.relation_semantics.proofs.OneParts.{sort_is}
 use Rattle.relation_semantics.specs.AskedAlone.{AsksAlone, of_variables, of_alias, AsksNoneAlone}
-use Rattle.relation_steps.specs.Alone.{RegistersAlone, RelatesAlone, StepsAlone}
+use Rattle.relation_steps.specs.Alone.{RegistersAlone, RelatesAtOnce, StepsAtOnce}
 
 module _ {Key Id Name : Type 0} (M : Manners) (r q : State Key Id Name) (a b : Tree) where
   -- A term that is no type.
   pub left_none : {X : Type 0} (v : Variance) (res : Result X (RelateFault Key Id Name)) → (sort_of a ≡ type_sort → ⊥) →
-      RelatesAlone M r q v a b res
-  left_none v res o = λ promised differ s. absurd (o s)
+      RelatesAtOnce M r q v a b res
+  left_none v res o =
+      (λ promised differ s. absurd (o s), λ promised none differ s. absurd (o s))
 
   pub right_none : {X : Type 0} (v : Variance) (res : Result X (RelateFault Key Id Name)) → (sort_of b ≡ type_sort → ⊥) →
-      RelatesAlone M r q v a b res
-  right_none v res o = λ promised differ s t. absurd (o t)
+      RelatesAtOnce M r q v a b res
+  right_none v res o =
+      (λ promised differ s t. absurd (o t), λ promised none differ s t. absurd (o t))
 
   -- One term.
   pub step_of_one : {K : Type 0} (tree : K → Tree) (res : Result (Step K) (RelateFault Key Id Name)) → a ≡ b →
-      StepsAlone M r q tree a b res
-  step_of_one tree res e = λ promised differ. absurd (differ e)
+      StepsAtOnce M r q tree a b res
+  step_of_one tree res e =
+      (λ promised differ. absurd (differ e), λ promised none differ. absurd (differ e))
 
   -- What a step registers at once is what relating registers.
   pub refused : (K X : Type 0) (p : Tree) (f : RelateFault Key Id Name) → RegistersAlone {X = K} r q p (Err f) →
@@ -46,26 +49,37 @@ module _ {Key Id Name : Type 0} (M : Manners) (r q : State Key Id Name) (a b : T
   refused K X p Budget h = h
   refused K X p (Unrelated e) h = h
 
-  pub done_registers : {K : Type 0} (tree : K → Tree) (x : K) → StepsAlone M r q tree a b (Ok (Done x)) →
-      RelatesAlone M r q r.ambient a b (Ok x)
-  done_registers tree x h = λ promised differ s t y z p f g asks. (h promised differ s t y z p f g asks).1
+  pub done_registers : {K : Type 0} (tree : K → Tree) (x : K) → StepsAtOnce M r q tree a b (Ok (Done x)) →
+      RelatesAtOnce M r q r.ambient a b (Ok x)
+  done_registers tree x h = (
+    λ promised differ s t y z p f g asks. (h.0 promised differ s t y z p f g asks).1,
+    λ promised none differ s t y z f g n m o. (h.1 promised none differ s t y z f g n m o).0,
+  )
 
   pub refused_registers : {K X : Type 0} (tree : K → Tree) (e : RelateFault Key Id Name)
-      (res : Result X (RelateFault Key Id Name)) → res ≡ Err e → StepsAlone {K = K} M r q tree a b (Err e) →
-      RelatesAlone M r q r.ambient a b res
-  refused_registers {K} {X} tree e res is h = subst (RelatesAlone {X = X} M r q r.ambient a b) (sym is)
-      (λ promised differ s t y z p f g asks. refused K X p e (h promised differ s t y z p f g asks))
+      (res : Result X (RelateFault Key Id Name)) → res ≡ Err e → StepsAtOnce {K = K} M r q tree a b (Err e) →
+      RelatesAtOnce M r q r.ambient a b res
+  refused_registers {K} {X} tree e res is h = subst (RelatesAtOnce {X = X} M r q r.ambient a b) (sym is) (
+    λ promised differ s t y z p f g asks. refused K X p e (h.0 promised differ s t y z p f g asks),
+    λ promised none differ s t y z f g n m o. (h.1 promised none differ s t y z f g n m o).0,
+  )
 
   -- No other step is taken of two such.
   pub parts_register : {K X : Type 0} (s : State Key Id Name) (tree : K → Tree) (x y : K)
-      (res : Result X (RelateFault Key Id Name)) → StepsAlone M r q tree a b (Ok (Parts x y)) →
-      RelatesAlone M r s r.ambient a b res
-  parts_register s tree x y res h = λ promised differ u w k l p f g asks. absurd (h promised differ u w k l p f g asks)
+      (res : Result X (RelateFault Key Id Name)) → StepsAtOnce M r q tree a b (Ok (Parts x y)) →
+      RelatesAtOnce M r s r.ambient a b res
+  parts_register s tree x y res h = (
+    λ promised differ u w k l p f g asks. absurd (h.0 promised differ u w k l p f g asks),
+    λ promised none differ u w k l f g n m o. absurd (h.1 promised none differ u w k l f g n m o).1,
+  )
 
   pub again_registers : {K X : Type 0} (s : State Key Id Name) (tree : K → Tree) (k l x y u : K) (v : Variance)
-      (res : Result X (RelateFault Key Id Name)) → StepsAlone M r q tree a b (Ok (Again k l x y v u)) →
-      RelatesAlone M r s r.ambient a b res
-  again_registers s tree k l x y u v res h = λ promised differ i j m n p f g asks. absurd (h promised differ i j m n p f g asks)
+      (res : Result X (RelateFault Key Id Name)) → StepsAtOnce M r q tree a b (Ok (Again k l x y v u)) →
+      RelatesAtOnce M r s r.ambient a b res
+  again_registers s tree k l x y u v res h = (
+    λ promised differ i j m n p f g asks. absurd (h.0 promised differ i j m n p f g asks),
+    λ promised none differ i j m n f g z w o. absurd (h.1 promised none differ i j m n f g z w o).1,
+  )
 
 -- No goal is asked alone of two forms that aren't left to one.
 pub formed_ask_none : (k : Settings) (v : Variance) (x y : Tree) → IsFormed x → (IsDeferred k x y → ⊥) → AsksNoneAlone k v x y
@@ -78,9 +92,11 @@ formed_ask_none k v x y f left s t p asks = go asks
 -- A fault says the same of whatever else might have been answered.
 pub refused_told : {Key Id Name : Type 0} (X Y : Type 0) (M : Manners) (r q : State Key Id Name) (v : Variance)
     (a b : Tree) (e : RelateFault Key Id Name) (res : Result Y (RelateFault Key Id Name)) → res ≡ Err e →
-    RelatesAlone {X = X} M r q v a b (Err e) → RelatesAlone M r q v a b res
-refused_told X Y M r q v a b e res is h = subst (RelatesAlone {X = Y} M r q v a b) (sym is)
-    (λ promised differ s t y z p f g asks. refused M r q a b X Y p e (h promised differ s t y z p f g asks))
+    RelatesAtOnce {X = X} M r q v a b (Err e) → RelatesAtOnce M r q v a b res
+refused_told X Y M r q v a b e res is h = subst (RelatesAtOnce {X = Y} M r q v a b) (sym is) (
+  λ promised differ s t y z p f g asks. refused M r q a b X Y p e (h.0 promised differ s t y z p f g asks),
+  h.1,
+)
 
 -- Arguments that are no types.
 region_no_type : (t : Tree) → Admits region_sort (sort_of t) → sort_of t ≡ type_sort → ⊥

@@ -9,7 +9,7 @@ ghost use Rattle.relation_semantics.specs.Lawful.{RemembersRelated};
 ghost use Rattle.relation_steps.specs.Following.{FollowsInterner};
 ghost use Rattle.relation_steps.specs.Rounds.{AskedBinders, OpenedBinders};
 ghost use Rattle.relation_steps.specs.Keyed.{RelatedRegions, ShownTys, TysAskNone, SteppedConsts, SteppedTys};
-ghost use Rattle.relation_steps.specs.Keyed.{TysStepRecords, ConstsStepRecords, TysStepAlone, AreOver, RecordsAsked};
+ghost use Rattle.relation_steps.specs.Keyed.{TysStepRecords, ConstsStepRecords, TysStepAtOnce, AreOver, RecordsAsked};
 ghost use Rattle.relation_steps.specs.Keyed.{NotedTys, variances_in, Decides};
 ghost use Rattle.relation_steps.specs.Terms.{AskedTerms};
 
@@ -82,7 +82,7 @@ pub trait TypeRelation<I: Interner>: HasState<I> {
         requires asked { AskedTerms manner None (λ m. m.ty) (Self.state self.old) a.now b.now }
         ensures stepped { SteppedTys manner (Self.state self.old) (Self.state self.new) a.now b.now result }
         ensures records { TysStepRecords manner (Self.state self.old) (Self.state self.new) a.now b.now result }
-        ensures registers { TysStepAlone manner (Self.state self.old) (Self.state self.new) a.now b.now result };
+        ensures registers { TysStepAtOnce manner (Self.state self.old) (Self.state self.new) a.now b.now result };
 
     /// What comes of two constants. Of two bare ones its answers say what those of `tys` do.
     fn consts(&mut self, a: &Const<I>, b: &Const<I>) -> RelateResult<I, Step<Const<I>>>

@@ -58,7 +58,7 @@ use Rattle.relation_recursion.proofs.Kept.{kept_answers, kept_fit, kept_fit_part
 use Rattle.relation_recursion.proofs.Kept.{kept_in, failed_in, answer_known}
 use Rattle.relation_recursion.specs.Keeping.{KeepsAnswer}
 use Rattle.relation_recursion.proofs.Looping.{failed_part, kept_part}
-use Rattle.relation_steps.specs.Alone.{RelatesAlone, StepsAlone}
+use Rattle.relation_steps.specs.Alone.{RelatesAtOnce, StepsAtOnce}
 use Rattle.relation_recursion.proofs.Alone.{formed_ask_none, left_none, right_none, lifetime_none, const_none, no_ty_none, refused_told}
 use Rattle.relation_recursion.proofs.Alone.{done_registers, refused_registers, parts_register, again_registers}
 use Rattle.std.proofs.Common.{Some, None}
@@ -575,7 +575,7 @@ tys-returns-in-Done-clause-registers g t c =
     let b = (r.meaning).ty c.args.b.now in
     let q = g.R.HasState.state c.tys.new.self in
     done_registers M r q a b (q.meaning).ty c.in-Done.answer
-    (subst (λ z. StepsAlone M r q (q.meaning).ty a b (Ok z)) c.in-Done.is c.in_ok-answer.ensures.registers)
+    (subst (λ z. StepsAtOnce M r q (q.meaning).ty a b (Ok z)) c.in-Done.is c.in_ok-answer.ensures.registers)
 
 pub tys-returns-in_err-answer-clause-registers : goal.tys-returns-in_err-answer-clause-registers
 tys-returns-in_err-answer-clause-registers g t c =
@@ -597,7 +597,7 @@ tys-returns-in_err-answer-in-Parts-clause-registers g t c =
     let s = g.R.HasState.state c.structurally_relate_tys.new.r in
     parts_register M r q a b s (q.meaning).ty c.in-Parts.a c.in-Parts.b
     c.from_residual-in_err-answer-in-Parts.result
-    (subst (λ z. StepsAlone M r q (q.meaning).ty a b (Ok z)) c.in-Parts.is c.in_ok-answer.ensures.registers)
+    (subst (λ z. StepsAtOnce M r q (q.meaning).ty a b (Ok z)) c.in-Parts.is c.in_ok-answer.ensures.registers)
 
 pub tys-returns-in_err-tys_done-in-Parts-clause-registers : goal.tys-returns-in_err-tys_done-in-Parts-clause-registers
 tys-returns-in_err-tys_done-in-Parts-clause-registers g t c =
@@ -609,7 +609,7 @@ tys-returns-in_err-tys_done-in-Parts-clause-registers g t c =
     let s = g.R.HasState.state c.tys_done.new.self in
     parts_register M r q a b s (q.meaning).ty c.in-Parts.a c.in-Parts.b
     c.from_residual-in_err-tys_done-in-Parts.result
-    (subst (λ z. StepsAlone M r q (q.meaning).ty a b (Ok z)) c.in-Parts.is c.in_ok-answer.ensures.registers)
+    (subst (λ z. StepsAtOnce M r q (q.meaning).ty a b (Ok z)) c.in-Parts.is c.in_ok-answer.ensures.registers)
 
 pub tys-returns-in_ok-tys_done-in-Parts-clause-registers : goal.tys-returns-in_ok-tys_done-in-Parts-clause-registers
 tys-returns-in_ok-tys_done-in-Parts-clause-registers g t c =
@@ -621,7 +621,7 @@ tys-returns-in_ok-tys_done-in-Parts-clause-registers g t c =
     let s = g.R.HasState.state c.tys_done.new.self in
     parts_register M r q a b s (q.meaning).ty c.in-Parts.a c.in-Parts.b
     (Ok c.in_ok-answer-in-Parts.answer)
-    (subst (λ z. StepsAlone M r q (q.meaning).ty a b (Ok z)) c.in-Parts.is c.in_ok-answer.ensures.registers)
+    (subst (λ z. StepsAtOnce M r q (q.meaning).ty a b (Ok z)) c.in-Parts.is c.in_ok-answer.ensures.registers)
 
 pub tys-returns-in_err-relate_with_variance-in-Again-clause-registers : goal.tys-returns-in_err-relate_with_variance-in-Again-clause-registers
 tys-returns-in_err-relate_with_variance-in-Again-clause-registers g t c =
@@ -634,7 +634,7 @@ tys-returns-in_err-relate_with_variance-in-Again-clause-registers g t c =
     again_registers M r q a b s (q.meaning).ty c.in-Again.a c.in-Again.b c.in-Again.x c.in-Again.y
     c.in-Again.answer c.in-Again.variance
     c.from_residual-in_err-relate_with_variance-in-Again.result
-    (subst (λ z. StepsAlone M r q (q.meaning).ty a b (Ok z)) c.in-Again.is c.in_ok-answer.ensures.registers)
+    (subst (λ z. StepsAtOnce M r q (q.meaning).ty a b (Ok z)) c.in-Again.is c.in_ok-answer.ensures.registers)
 
 pub tys-returns-in_err-tys_done-in-Again-clause-registers : goal.tys-returns-in_err-tys_done-in-Again-clause-registers
 tys-returns-in_err-tys_done-in-Again-clause-registers g t c =
@@ -647,7 +647,7 @@ tys-returns-in_err-tys_done-in-Again-clause-registers g t c =
     again_registers M r q a b s (q.meaning).ty c.in-Again.a c.in-Again.b c.in-Again.x c.in-Again.y
     c.in-Again.answer c.in-Again.variance
     c.from_residual-in_err-tys_done-in-Again.result
-    (subst (λ z. StepsAlone M r q (q.meaning).ty a b (Ok z)) c.in-Again.is c.in_ok-answer.ensures.registers)
+    (subst (λ z. StepsAtOnce M r q (q.meaning).ty a b (Ok z)) c.in-Again.is c.in_ok-answer.ensures.registers)
 
 pub tys-returns-in_ok-tys_done-in-Again-clause-registers : goal.tys-returns-in_ok-tys_done-in-Again-clause-registers
 tys-returns-in_ok-tys_done-in-Again-clause-registers g t c =
@@ -660,7 +660,7 @@ tys-returns-in_ok-tys_done-in-Again-clause-registers g t c =
     again_registers M r q a b s (q.meaning).ty c.in-Again.a c.in-Again.b c.in-Again.x c.in-Again.y
     c.in-Again.answer c.in-Again.variance
     (Ok c.in-Again.answer)
-    (subst (λ z. StepsAlone M r q (q.meaning).ty a b (Ok z)) c.in-Again.is c.in_ok-answer.ensures.registers)
+    (subst (λ z. StepsAtOnce M r q (q.meaning).ty a b (Ok z)) c.in-Again.is c.in_ok-answer.ensures.registers)
 
 pub relate-returns-in_default : goal.relate-returns-in_default
 relate-returns-in_default g t c =
@@ -755,7 +755,7 @@ relate-returns-in_ok-tys-in-Ty g t c =
           (sym c.in-Ty.is) (sym c.in-Ty-b.is)
           (retold M r.ambient ((r.meaning).ty c.in-Ty.a) ((r.meaning).ty c.in-Ty-b.b) (q.meaning).ty n.field-0
           (arg_tree q.meaning) (Ty n.field-0) refl n.ensures.related);
-      registers = subst₂ (λ t u. RelatesAlone M r q r.ambient (arg_tree r.meaning t) (arg_tree r.meaning u)
+      registers = subst₂ (λ t u. RelatesAtOnce M r q r.ambient (arg_tree r.meaning t) (arg_tree r.meaning u)
           (Ok (Ty n.field-0))) (sym c.in-Ty.is) (sym c.in-Ty-b.is) n.ensures.registers;
       kind = ap arg_sort (sym c.in-Ty.is);
     }
@@ -767,7 +767,7 @@ relate-returns-in_err-tys-in-Ty-clause-registers g t c =
     let q = g.R.HasState.state c.tys.new.r in
     let n = c.in_err-tys-in-Ty in
     let res = c.from_residual-in_err-tys-in-Ty.result in
-    subst₂ (λ t u. RelatesAlone M r q r.ambient (arg_tree r.meaning t) (arg_tree r.meaning u) res)
+    subst₂ (λ t u. RelatesAtOnce M r q r.ambient (arg_tree r.meaning t) (arg_tree r.meaning u) res)
     (sym c.in-Ty.is) (sym c.in-Ty-b.is)
     (refused_told ⊥ _ M r q r.ambient ((r.meaning).ty c.in-Ty.a) ((r.meaning).ty c.in-Ty-b.b) n.field-0.0 res
     (as_err res n.field-0.0 c.from_residual-in_err-tys-in-Ty.ensures.0 c.from_residual-in_err-tys-in-Ty.ensures.1)
