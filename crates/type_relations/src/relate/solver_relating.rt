@@ -73,6 +73,10 @@ pub trait RelateExt: InferCtxtLike {
     /// Both stand there by their roots, and the first is the expected one. So does an alias with another type, where
     /// aliases are left to goals, and neither is an error or a type variable, at each variance: that goal alone.
     ///
+    /// Of two different types of which one is an error and neither a type variable, as they are read by what is
+    /// recorded, it is recorded that an error was met, and nothing else, also where a growth was refused; and no goal is
+    /// answered.
+    ///
     /// Answers `Unrelated` only where no assignment that satisfied what was recorded makes the two one: with the error
     /// of the two, or of two parts that stand at one place, the left side's first; or of a variable that can't be bound
     /// to the other side, in which it stands itself, or a placeholder that it can't name. Of first-order terms in a
