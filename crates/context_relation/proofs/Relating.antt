@@ -15,7 +15,7 @@ use Rattle.relation_semantics.specs.Contexts.{Context}
 use Rattle.relation_semantics.specs.Goals.{Goal as GoalOf}
 use Rattle.relation_semantics.specs.Alphabets.{StaysBuilt}
 use Rattle.relation_semantics.proofs.Building.{built_refused}
-use Rattle.context_relation.specs.Relating.{term_in, AnswersAlone, AnswersAsked, BuildsNoMore, TaintsForError}
+use Rattle.context_relation.specs.Relating.{term_in, AnswersAlone, AnswersAsked, BuildsNoMore, TaintsForError, AsksIfOpen}
 use Rattle.relation_steps.specs.Alone.{RegistersAlone, RelatesAtOnce}
 use Rattle.relation_combining.specs.Solving.{solving_in, solver_manner}
 use Rattle.context_relation.proofs.Closed.{none_keyed}
@@ -72,6 +72,21 @@ module _ {S Key Id Name A X : Type 0} (aliases : StructurallyRelateAliases) (sta
       TaintsForError state old new over tree a b (Ok goals)
   answered_taints goals x h = λ differ s t y z i j n m o.
       let k = h.1 tt refl differ s t y z i j n m o in (k.0, none_keyed (state new).meaning goals.items k.1)
+
+  -- What is asked of two over one item.
+  pub answered_open : (goals : Vec (Goal Key (PredicateKey Key))) (x : X) →
+      RelatesAtOnce solver_manner (solving_in aliases [] (state old) v e) (solving_in aliases goals.items (state new) v e) v
+      (term_in (state old) over tree a) (term_in (state old) over tree b) (Ok x) →
+      AsksIfOpen state old new over tree e v a b (Ok goals)
+  answered_open goals x h = λ differ s t y z i j. h.2 tt refl differ s t y z i j
+
+-- Of a fault nothing is said of open arguments.
+pub refused_open : {S Key Id Name A : Type 0} (state : S → Context Key Id Name) (old new : S) (over : Option Head)
+    (tree : Meaning Key Id Name → A → Tree) (e : ParamEnvKey Key) (v : Variance) (a b : A) (f : RelateFault Key Id Name)
+    (res : Result (Vec (Goal Key (PredicateKey Key))) (RelateFault Key Id Name)) → res ≡ Err f →
+    AsksIfOpen state old new over tree e v a b res
+refused_open state old new over tree e v a b f res is = subst (AsksIfOpen state old new over tree e v a b) (sym is)
+    (λ differ s t x y i j. tt)
 
 -- What was bound is built of no more, where goals that were registered are not answered.
 pub refused_built : {S Key Id Name A : Type 0} (state : S → Context Key Id Name) (old new : S) (over : Option Head)

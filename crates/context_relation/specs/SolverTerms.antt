@@ -17,8 +17,8 @@ use Rattle.relation_semantics.specs.Lawful.{State, HasRelated, RemembersAtMost}
 use Rattle.context_relation.specs.declared.relation.SolverRelating.{SolverRelating}
 use Rattle.relation_combining.specs.Combining.{ConstsCombine}
 use Rattle.relation_steps.specs.Keyed.{RelatedRegions, SteppedConsts, SteppedTys, TysStepAtOnce, AreOver, NotedTys}
-use Rattle.relation_steps.specs.Keyed.{ConstsStepRecords, TysStepRecords, RecordsAsked, ShownTys}
-use Rattle.relation_combining.specs.Bivariance.{AsksOfOver}
+use Rattle.relation_steps.specs.Keyed.{ConstsStepRecords, TysStepRecords, RecordsAsked, ShownTys, TysAskOpen}
+use Rattle.relation_steps.specs.Bivariance.{AsksOfOver}
 use Rattle.relation_goals.specs.Emitting.{AddsGoals, RegistersSubtype, goals_in}
 use Rattle.relation_steps.specs.Rounds.{OpenedBinders}
 use Rattle.relation_combining.specs.Solving.{solving_through, solver_manner}
@@ -205,6 +205,12 @@ module _ {Infcx Interner Key Id Name Span : Type 0} (state : Infcx → Context K
       SolverRelating Infcx Interner Key Id Name Span → TyKey Key → TyKey Key →
       Result X (RelateFault Key Id Name) → Type 0
   SolverAsksWellFormed r q a b result = AsksOfOver (solver_through r) (solver_through q) a b result
+
+  -- It was asked that they are well formed, where an argument is left open.
+  abbrev pub SolverAsksOpen : {X : Type 0} → SolverRelating Infcx Interner Key Id Name Span →
+      SolverRelating Infcx Interner Key Id Name Span → TyKey Key → TyKey Key →
+      Result X (RelateFault Key Id Name) → Type 0
+  SolverAsksOpen r q a b result = TysAskOpen solver_manner (solver_through r) (solver_through q) a b result
 
   -- No goal was registered.
   abbrev pub KeepsGoals : SolverRelating Infcx Interner Key Id Name Span →

@@ -5,7 +5,7 @@ ghost use Rattle.relation_semantics.specs.Lawful.{RelatesByDeclared};
 ghost use Rattle.relation_steps.specs.Rounds.{AskedBinders};
 ghost use Rattle.relation_combining.specs.Solving.{solver_manner};
 ghost use Rattle.context_relation.specs.SolverTerms.{KeepsEnvironment, KeepsGoals, SolverAsked, SolverRelated};
-ghost use Rattle.context_relation.specs.SolverTerms.{SolverAsksWellFormed, SolverIsOver, SolverNotedTys, SolverOpened};
+ghost use Rattle.context_relation.specs.SolverTerms.{SolverAsksOpen, SolverAsksWellFormed, SolverIsOver, SolverNotedTys, SolverOpened};
 ghost use Rattle.context_relation.specs.SolverTerms.{SolverRecordsAsked, SolverRecordsConsts, SolverRecordsTys};
 ghost use Rattle.context_relation.specs.SolverTerms.{SolverRegisters, SolverRelatedRegions, SolverRemembersTys};
 ghost use Rattle.context_relation.specs.SolverTerms.{SolverShownTys, SolverStepped, SolverSteps, SolverStepsAtOnce};
@@ -276,6 +276,7 @@ impl<'a, Infcx: InferCtxtLike> TypeRelation<Infcx::Interner> for SolverRelating<
         requires over { SolverIsOver Infcx.state self.old def_id.now a_ty.now b_ty.now a_args.now b_args.now }
         requires related { SolverShownTys Infcx.state self.old a_ty.now b_ty.now }
         ensures noted { SolverNotedTys Infcx.state self.old self.new a_ty.now b_ty.now result }
+        ensures asks { SolverAsksOpen Infcx.state self.old self.new a_ty.now b_ty.now result }
         ensures registers { SolverAsksWellFormed Infcx.state self.old self.new a_ty.now b_ty.now result }
     {
         self.step_ty_args(a_ty, b_ty, def_id, a_args, b_args)

@@ -10,7 +10,7 @@ ghost use Rattle.relation_steps.specs.Following.{FollowsInterner};
 ghost use Rattle.relation_steps.specs.Rounds.{AskedBinders, OpenedBinders};
 ghost use Rattle.relation_steps.specs.Keyed.{RelatedRegions, ShownTys, TysAskNone, SteppedConsts, SteppedTys};
 ghost use Rattle.relation_steps.specs.Keyed.{TysStepRecords, ConstsStepRecords, TysStepAtOnce, AreOver, RecordsAsked};
-ghost use Rattle.relation_steps.specs.Keyed.{NotedTys, variances_in, Decides};
+ghost use Rattle.relation_steps.specs.Keyed.{NotedTys, TysAskOpen, variances_in, Decides};
 ghost use Rattle.relation_steps.specs.Terms.{AskedTerms};
 
 use relation_folds::error::RelateResult;
@@ -145,7 +145,8 @@ pub trait TypeRelation<I: Interner>: HasState<I> {
         requires by_declared { RelatesByDeclared (Self.state self.old) }
         requires over { AreOver (Self.state self.old) def_id.now a_ty.now b_ty.now a_args.now b_args.now }
         requires related { ShownTys manner (Self.state self.old) a_ty.now b_ty.now }
-        ensures { NotedTys (Self.state self.old) (Self.state self.new) a_ty.now b_ty.now result };
+        ensures noted { NotedTys (Self.state self.old) (Self.state self.new) a_ty.now b_ty.now result }
+        ensures asks { TysAskOpen manner (Self.state self.old) (Self.state self.new) a_ty.now b_ty.now result };
 
     // Its keys mean what they mean to the interner.
     ghost reads: { (r : Self) → (Self.state r).meaning ≡ I.meaning (interner r) };
