@@ -47,16 +47,16 @@ none_of_fault P res f is = subst (λ z. IfOk z (λ _. P)) (sym is) tt
 module _ {Key Id Name : Type 0} where
   asked_as : (r s : State Key Id Name) (x y m n : Tree) →
       ((d : ℕ) (ts us : Tree) → AreOverItem d m n ts us → (x ≡ m) × (y ≡ n)) → HasAskedOpen r s x y → HasAskedOpen r s m n
-  asked_as r s x y m n same h directed d ts us over open =
+  asked_as r s x y m n same h directed d ts us over opens =
       let e = same d ts us over in
       subst₂ (λ t u. Contains s.goals (goal_of r.kept.environment (well_formed_predicate t)) ×
       Contains s.goals (goal_of r.kept.environment (well_formed_predicate u))) e.0 e.1
-      (h directed d ts us (subst₂ (λ t u. AreOverItem d t u ts us) (sym e.0) (sym e.1) over) open)
+      (h directed d ts us (subst₂ (λ t u. AreOverItem d t u ts us) (sym e.0) (sym e.1) over) opens)
 
   pub asked_still : {n : ℕ} {r q p s : State Key Id Name} → Passes n r q → (x y : Tree) → s.store ≡ p.store →
       (more : List Goal) → s.goals ≡ p.goals ++ more → HasAskedOpen q p x y → HasAskedOpen r s x y
-  asked_still {n} {r} {q} {p} {s} g x y st more gs h directed d ts us over open =
-      let o = subst₂ (λ c z. HasOpenArgument c z d ts ⊎ HasOpenArgument c z d us) (sym (same_items g)) st open in
+  asked_still {n} {r} {q} {p} {s} g x y st more gs h directed d ts us over opens =
+      let o = subst₂ (λ c z. HasOpenArgument c z d ts ⊎ HasOpenArgument c z d us) (sym (same_items g)) st opens in
       let c = h (λ e. directed (sym g.ambient ∙ e)) d ts us over o in
       (stays (well_formed_predicate x) c.0, stays (well_formed_predicate y) c.1)
     where
@@ -115,7 +115,7 @@ module _ {Key Id Name : Type 0} (M : Manners) (r q : State Key Id Name) (a b : T
   done_registers tree x h = (
     λ promised differ s t y z p f g asks. (h.0 promised differ s t y z p f g asks).1,
     λ promised none differ s t y z f g n m o. (h.1 promised none differ s t y z f g n m o).0,
-    λ promised none differ s t y z f g directed d ts us over open. absurd (h.2 promised none differ s t y z f g d ts us over),
+    λ promised none differ s t y z f g directed d ts us over opens. absurd (h.2 promised none differ s t y z f g d ts us over),
   )
 
   pub refused_registers : {K X : Type 0} (tree : K → Tree) (e : RelateFault Key Id Name)
@@ -146,7 +146,7 @@ module _ {Key Id Name : Type 0} (M : Manners) (r q : State Key Id Name) (a b : T
   again_registers s tree k l x y u v res h = (
     λ promised differ i j m n p f g asks. absurd (h.0 promised differ i j m n p f g asks),
     λ promised none differ i j m n f g z w o. absurd (h.1 promised none differ i j m n f g z w o).1,
-    λ promised none differ i j m n f g. if_ok_anyhow res (λ directed d ts us over open.
+    λ promised none differ i j m n f g. if_ok_anyhow res (λ directed d ts us over opens.
         absurd (h.2 promised none differ i j m n f g d ts us over)),
   )
 

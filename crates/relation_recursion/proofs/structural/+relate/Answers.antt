@@ -1745,11 +1745,11 @@ structurally_relate_tys-returns-clause-related g t c =
     (made.made).means
 
 pub structurally_relate_tys-returns-then-is_error_of-clause-asks : goal.structurally_relate_tys-returns-then-is_error_of-clause-asks
-structurally_relate_tys-returns-then-is_error_of-clause-asks g t c = λ promised directed d ts us over open.
+structurally_relate_tys-returns-then-is_error_of-clause-asks g t c = λ promised directed d ts us over opens.
     absurd (error_not_over over (inl (c.is_error_of.ensures.0 c.if-is_error_of.true)))
 
 pub structurally_relate_tys-returns-then-is_error_of-2-clause-asks : goal.structurally_relate_tys-returns-then-is_error_of-2-clause-asks
-structurally_relate_tys-returns-then-is_error_of-2-clause-asks g t c = λ promised directed d ts us over open.
+structurally_relate_tys-returns-then-is_error_of-2-clause-asks g t c = λ promised directed d ts us over opens.
     absurd (error_not_over over (inr (c.is_error_of-2.ensures.0 c.if-is_error_of-2.true)))
 
 pub structurally_relate_tys-returns-in_err-compare_tys_of-clause-asks : goal.structurally_relate_tys-returns-in_err-compare_tys_of-clause-asks
@@ -1798,7 +1798,7 @@ structurally_relate_tys-returns-clause-asks g t c =
     (made.grown).store [] ((made.grown).goals ∙ sym (append-nil u.goals)) promised c.in_ok-note_args.ensures.asks)
 
 pub structurally_relate_tys-returns-then-is_by_parts_of-clause-asks : goal.structurally_relate_tys-returns-then-is_by_parts_of-clause-asks
-structurally_relate_tys-returns-then-is_by_parts_of-clause-asks g t c = λ promised directed d ts us over open.
+structurally_relate_tys-returns-then-is_by_parts_of-clause-asks g t c = λ promised directed d ts us over opens.
     absurd (by_parts_not_over over ((c.is_by_parts_of.ensures).0 c.if-is_by_parts_of.true))
 
 pub relate_in_order-loop-i-init : goal.relate_in_order-loop-i-init
