@@ -60,10 +60,10 @@ infer_no_fn : (i : InferTy) → IsFnType (infer_tree i) → ⊥
 infer_no_fn i o = o
 
 module _ {Key Id Name : Type 0} (m : Meaning Key Id Name) where
-  NoAdt : TyKind Key Id Name → Type 0
+  abbrev NoAdt : TyKind Key Id Name → Type 0
   NoAdt k = (d : AdtId Id) (a : ArgsKey Key) → k ≡ Adt d a → ⊥
 
-  NoFn : TyKind Key Id Name → Type 0
+  abbrev NoFn : TyKind Key Id Name → Type 0
   NoFn k = (d : FunctionId Id) (a : ArgsKey Key) → k ≡ FnDef d a → ⊥
 
   no_adt : (k : TyKind Key Id Name) → NoAdt k → IsAdtType (kind_tree m k) → ⊥
@@ -77,14 +77,14 @@ module _ {Key Id Name : Type 0} (m : Meaning Key Id Name) where
   no_fn k n o = o
 
   module _ {d : ℕ} {a b ts us : Tree} (k l : TyKind Key Id Name) (is_k : a ≡ kind_tree m k) (is_l : b ≡ kind_tree m l)
-      where
-    pub adt_beside_other : (x : AdtId Id) (y : ArgsKey Key) → k ≡ Adt x y → NoAdt l → AreOverItem d a b ts us → ⊥
-    adt_beside_other x y e n (adts p q) = no_adt l n (subst IsAdtType (sym q ∙ is_l) tt)
-    adt_beside_other x y e n (functions p q) = subst IsFnType (sym p ∙ is_k ∙ ap (kind_tree m) e) tt
+    where
+      pub adt_beside_other : (x : AdtId Id) (y : ArgsKey Key) → k ≡ Adt x y → NoAdt l → AreOverItem d a b ts us → ⊥
+      adt_beside_other x y e n (adts p q) = no_adt l n (subst IsAdtType (sym q ∙ is_l) tt)
+      adt_beside_other x y e n (functions p q) = subst IsFnType (sym p ∙ is_k ∙ ap (kind_tree m) e) tt
 
-    pub fn_beside_other : (x : FunctionId Id) (y : ArgsKey Key) → k ≡ FnDef x y → NoFn l → AreOverItem d a b ts us → ⊥
-    fn_beside_other x y e n (functions p q) = no_fn l n (subst IsFnType (sym q ∙ is_l) tt)
-    fn_beside_other x y e n (adts p q) = subst IsAdtType (sym p ∙ is_k ∙ ap (kind_tree m) e) tt
+      pub fn_beside_other : (x : FunctionId Id) (y : ArgsKey Key) → k ≡ FnDef x y → NoFn l → AreOverItem d a b ts us → ⊥
+      fn_beside_other x y e n (functions p q) = no_fn l n (subst IsFnType (sym q ∙ is_l) tt)
+      fn_beside_other x y e n (adts p q) = subst IsAdtType (sym p ∙ is_k ∙ ap (kind_tree m) e) tt
 
   pub over_none : {d : ℕ} {a b ts us : Tree} (k : TyKind Key Id Name) → a ≡ kind_tree m k → NoAdt k → NoFn k →
       AreOverItem d a b ts us → ⊥
