@@ -99,7 +99,7 @@ aside_sorts : (set : Settings) (v : Variance) (a b : Tree) → IsLeftAside set v
 aside_sorts set v a b (inl p) = inl p
 aside_sorts set v a b (inr (l, s)) = inr s
 
-sorts_by : (set : Settings) (v : Variance) (a b : Tree) → IsLeftAside set v a b ⊎ (AreFlexible a b ⊎ AreAlike a b) →
+pub sorts_by : (set : Settings) (v : Variance) (a b : Tree) → IsLeftAside set v a b ⊎ (AreFlexible a b ⊎ AreAlike a b) →
     (v ≡ Bivariant) ⊎ (sort_of a ≡ sort_of b)
 sorts_by set v a b (inl p) = aside_sorts set v a b p
 sorts_by set v a b (inr (inl o)) = inr o.1
@@ -322,7 +322,7 @@ opened_leaves set v xs ys d t u p q f (inr (inr e)) = go (inst_outer xs d t) (in
     go (inr x) (inl o) = inr (inl (inr o, sorts))
     go (inr x) (inr y) = inr (inr (sym x ∙ e ∙ y))
 
-agree_count : (set : Settings) (c : Items) (h : Head) (i : ℕ) (v : Variance) (xs ys : Tree) → Agree set c (parts h i v) xs ys →
+pub agree_count : (set : Settings) (c : Items) (h : Head) (i : ℕ) (v : Variance) (xs ys : Tree) → Agree set c (parts h i v) xs ys →
     count xs ≡ count ys
 agree_count set c h i v (cons a xs) (cons b ys) g = ap suc (agree_count set c h (suc i) v xs ys g.1)
 agree_count set c h i v xs ys g = g

@@ -14,6 +14,7 @@ pub mod NewVariables
 pub mod MakingEach
 pub mod Opened
 pub mod Agreeing
+pub mod AgreeingApplied
 pub mod Erased
 pub mod Composing
 pub mod Opening
