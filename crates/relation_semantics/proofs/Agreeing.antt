@@ -63,7 +63,7 @@ pub agree_same : (set : Settings) (c : Items) (v : Variance) (a b : Tree) → a 
 agree_same set c v a b p = subst (λ z. Agree set c (at v) a z) p (agree_itself set c v a)
 
 -- What agrees is of one sort.
-plain_sort : (h : Head) → head_sort (plain h) ≡ head_sort h
+pub plain_sort : (h : Head) → head_sort (plain h) ≡ head_sort h
 plain_sort (alias k d) = refl
 plain_sort (alias_term k d) = refl
 plain_sort h = refl
@@ -91,10 +91,10 @@ outer_sort (bind ks t) = refl
 outer_sort nil = refl
 outer_sort (cons t ts) = refl
 
-alike_sorts : (a b : Tree) → AreAlike a b → sort_of a ≡ sort_of b
+pub alike_sorts : (a b : Tree) → AreAlike a b → sort_of a ≡ sort_of b
 alike_sorts a b e = sym (outer_sort a) ∙ ap sort_of e ∙ outer_sort b
 
-aside_sorts : (set : Settings) (v : Variance) (a b : Tree) → IsLeftAside set v a b →
+pub aside_sorts : (set : Settings) (v : Variance) (a b : Tree) → IsLeftAside set v a b →
     (v ≡ Bivariant) ⊎ (sort_of a ≡ sort_of b)
 aside_sorts set v a b (inl p) = inl p
 aside_sorts set v a b (inr (l, s)) = inr s

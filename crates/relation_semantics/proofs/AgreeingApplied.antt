@@ -19,9 +19,14 @@ use Rattle.relation_semantics.proofs.Classes.{class_alike}
 use Rattle.relation_semantics.proofs.Resolved.{resolved_meets, resolved_value}
 use Rattle.relation_semantics.proofs.StoreCalls.{resolved_stands}
 
+-- No variable.
+abbrev pub NoVar : Tree → Type 0
+NoVar (leaf (variable k n)) = ⊥
+NoVar t = Unit {0}
+
 -- Terms of their kinds put for variables.
 module _ (set : Settings) (c : Items) (s : Assign) (kinds : (k : VarKind) (n : ℕ) → sort_of (s k n) ≡ var_sort k) where
-  applied_sort : (t : Tree) → sort_of (apply s t) ≡ sort_of t
+  pub applied_sort : (t : Tree) → sort_of (apply s t) ≡ sort_of t
   applied_sort (leaf (variable k n)) = kinds k n
   applied_sort (leaf (bound k d i)) = refl
   applied_sort (leaf (placeholder k u n)) = refl
@@ -47,7 +52,7 @@ module _ (set : Settings) (c : Items) (s : Assign) (kinds : (k : VarKind) (n : �
       none const_var e = cc
       none region_var e = cc
 
-  applied_count : (t : Tree) → count (apply s t) ≡ count t
+  pub applied_count : (t : Tree) → count (apply s t) ≡ count t
   applied_count (leaf (variable k n)) = no_members k (s k n) (kinds k n)
   applied_count (leaf (bound k d i)) = refl
   applied_count (leaf (placeholder k u n)) = refl
@@ -59,18 +64,18 @@ module _ (set : Settings) (c : Items) (s : Assign) (kinds : (k : VarKind) (n : �
   applied_count (cons t ts) = ap suc (applied_count ts)
 
   -- A term has the form that it has with terms put for variables.
-  record Shows (t : Tree) : Type 0 where
-    flexible : IsFlexible (apply s t) → IsFlexible t
-    outer : outermost (apply s t) ≡ outermost t
-    alias_too : IsAlias (apply s t) → IsAlias t
-    opaque_too : IsOpaque (apply s t) → IsOpaque t
-    beside : (u : Tree) → IsOpaqueBeside u (apply s t) → IsOpaqueBeside u t
+  pub record Shows (t : Tree) : Type 0 where
+    pub flexible : IsFlexible (apply s t) → IsFlexible t
+    pub outer : outermost (apply s t) ≡ outermost t
+    pub alias_too : IsAlias (apply s t) → IsAlias t
+    pub opaque_too : IsOpaque (apply s t) → IsOpaque t
+    pub beside : (u : Tree) → IsOpaqueBeside u (apply s t) → IsOpaqueBeside u t
 
   opaque_before : (h : Head) (ts : Tree) → IsOpaque (node h (apply s ts)) → IsOpaque (node h ts)
   opaque_before (alias opaque_alias d) ts o = o
   opaque_before h ts o = o
 
-  node_shows : (h : Head) (ts : Tree) → Shows (node h ts)
+  pub node_shows : (h : Head) (ts : Tree) → Shows (node h ts)
   node_shows h ts = record {
     flexible = λ o. o;
     outer = refl;
@@ -79,19 +84,23 @@ module _ (set : Settings) (c : Items) (s : Assign) (kinds : (k : VarKind) (n : �
     beside = λ u o. o;
   }
 
+  pub form_shows : (t : Tree) → NoVar t → Shows t
+  form_shows (leaf (variable k n)) o = absurd o
+  form_shows (node h ts) o = node_shows h ts
+  form_shows (leaf (bound k d i)) o = record { flexible = λ o. o; outer = refl; alias_too = λ o. o; opaque_too = λ o. o; beside = λ u o. o }
+  form_shows (leaf (placeholder k w n)) o = record { flexible = λ o. o; outer = refl; alias_too = λ o. o; opaque_too = λ o. o; beside = λ u o. o }
+  form_shows (leaf (atom x)) o = record { flexible = λ o. o; outer = refl; alias_too = λ o. o; opaque_too = λ o. o; beside = λ u o. o }
+  form_shows (leaf unknown) o = record { flexible = λ o. o; outer = refl; alias_too = λ o. o; opaque_too = λ o. o; beside = λ u o. o }
+  form_shows (bind ks t) o = record { flexible = λ o. o; outer = refl; alias_too = λ o. o; opaque_too = λ o. o; beside = λ u o. o }
+  form_shows nil o = record { flexible = λ o. o; outer = refl; alias_too = λ o. o; opaque_too = λ o. o; beside = λ u o. o }
+  form_shows (cons t ts) o = record { flexible = λ o. o; outer = refl; alias_too = λ o. o; opaque_too = λ o. o; beside = λ u o. o }
+
   -- Or it is a variable.
   shows : (t : Tree) → IsFlexible t ⊎ Shows t
   shows (leaf (variable k n)) = inl tt
-  shows (leaf (bound k d i)) = inr (record { flexible = λ o. o; outer = refl; alias_too = λ o. o; opaque_too = λ o. o; beside = λ u o. o })
-  shows (leaf (placeholder k w n)) = inr (record { flexible = λ o. o; outer = refl; alias_too = λ o. o; opaque_too = λ o. o; beside = λ u o. o })
-  shows (leaf (atom x)) = inr (record { flexible = λ o. o; outer = refl; alias_too = λ o. o; opaque_too = λ o. o; beside = λ u o. o })
-  shows (leaf unknown) = inr (record { flexible = λ o. o; outer = refl; alias_too = λ o. o; opaque_too = λ o. o; beside = λ u o. o })
-  shows (node h ts) = inr (node_shows h ts)
-  shows (bind ks t) = inr (record { flexible = λ o. o; outer = refl; alias_too = λ o. o; opaque_too = λ o. o; beside = λ u o. o })
-  shows nil = inr (record { flexible = λ o. o; outer = refl; alias_too = λ o. o; opaque_too = λ o. o; beside = λ u o. o })
-  shows (cons t ts) = inr (record { flexible = λ o. o; outer = refl; alias_too = λ o. o; opaque_too = λ o. o; beside = λ u o. o })
+  shows t = inr (form_shows t tt)
 
-  beside_left : (x y u : Tree) → (IsOpaque x → IsOpaque y) → IsOpaqueBeside x u → IsOpaqueBeside y u
+  pub beside_left : (x y u : Tree) → (IsOpaque x → IsOpaque y) → IsOpaqueBeside x u → IsOpaqueBeside y u
   beside_left x y (leaf (variable k n)) f o = o
   beside_left x y (leaf (bound k d i)) f o = f o
   beside_left x y (leaf (placeholder k u n)) f o = f o
@@ -121,7 +130,7 @@ module _ (set : Settings) (c : Items) (s : Assign) (kinds : (k : VarKind) (n : �
   deferred_before t u f g (inr (w, inl o)) = inr (w, inl (beside_left (apply s t) t u f.opaque_too (g.beside (apply s t) o)))
   deferred_before t u f g (inr (w, inr o)) = inr (w, inr (beside_left (apply s u) u t g.opaque_too (f.beside (apply s u) o)))
 
-  aside_before : (v : Variance) (t u : Tree) → Shows t → Shows u → IsLeftAside set v (apply s t) (apply s u) →
+  pub aside_before : (v : Variance) (t u : Tree) → Shows t → Shows u → IsLeftAside set v (apply s t) (apply s u) →
       IsLeftAside set v t u
   aside_before v t u f g (inl e) = inl e
   aside_before v t u f g (inr i) = inr (deferred_before t u f g i.0, sym (applied_sort t) ∙ i.1 ∙ applied_sort u)

@@ -15,6 +15,7 @@ pub mod MakingEach
 pub mod Opened
 pub mod Agreeing
 pub mod AgreeingApplied
+pub mod AgreeingNumbers
 pub mod Erased
 pub mod Composing
 pub mod Opening

@@ -9,6 +9,7 @@ pub mod Outcomes
 pub mod Headline
 pub mod Errors
 pub mod Agreeing
+pub mod AgreeingWell
 pub mod StepLaws
 pub mod ErasureLaws
 pub mod StoreLaws
