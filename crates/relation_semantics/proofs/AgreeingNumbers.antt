@@ -82,10 +82,16 @@ free_beside set v a b (inr s) o = inr (inl (o, s))
 number_no_alias : (j : VarKind) → IsNumberKind j → (z : Tree) → MayStandFor j z → IsAlias z → ⊥
 number_no_alias int_var n (leaf l) h o = o
 number_no_alias float_var n (leaf l) h o = o
+number_no_alias int_var n z h o = absurd h
+number_no_alias float_var n z h o = absurd h
+number_no_alias j n z h o = absurd n
 
 number_no_opaque : (j : VarKind) → IsNumberKind j → (z : Tree) → MayStandFor j z → IsOpaque z → ⊥
 number_no_opaque int_var n (leaf l) h o = o
 number_no_opaque float_var n (leaf l) h o = o
+number_no_opaque int_var n z h o = absurd h
+number_no_opaque float_var n z h o = absurd h
+number_no_opaque j n z h o = absurd n
 
 int_not_free : (x : Atom) → IsIntegerAtom x → IsFree (leaf (atom x)) → ⊥
 int_not_free (int_type w) h (inl o) = o
@@ -104,12 +110,16 @@ number_not_free int_var n (leaf (variable int_var i)) h o = o
 number_not_free int_var n (leaf (atom x)) h o = int_not_free x h o
 number_not_free float_var n (leaf (variable float_var i)) h o = o
 number_not_free float_var n (leaf (atom x)) h o = float_not_free x h o
+number_not_free int_var n z h o = absurd h
+number_not_free float_var n z h o = absurd h
+number_not_free j n z h o = absurd n
 
 -- A number variable meets what one that it stands for meets, and what it stands for itself.
 meets : (set : Settings) (j : VarKind) → IsNumberKind j → (n : ℕ) (b : Tree) →
     MayStandFor j b ⊎ (LeavesOpaque set × IsOpaque b) → MeetsNumber set (leaf (variable j n)) b
 meets set int_var o n b h = h
 meets set float_var o n b h = h
+meets set j o n b h = absurd o
 
 number_meets : (set : Settings) (j : VarKind) → IsNumberKind j → (z b : Tree) → MayStandFor j z → MeetsNumber set z b →
     MayStandFor j b ⊎ (LeavesOpaque set × IsOpaque b)
@@ -117,6 +127,9 @@ number_meets set int_var o (leaf (variable int_var i)) b h m = m
 number_meets set int_var o (leaf (atom x)) b h m = absurd m
 number_meets set float_var o (leaf (variable float_var i)) b h m = m
 number_meets set float_var o (leaf (atom x)) b h m = absurd m
+number_meets set int_var o z b h m = absurd h
+number_meets set float_var o z b h m = absurd h
+number_meets set j o z b h m = absurd o
 
 no_var_meets : (set : Settings) (u z : Tree) → NoVar u → MeetsNumber set u z → ⊥
 no_var_meets set (leaf (variable k n)) z o h = o
@@ -180,6 +193,9 @@ alike_number float_var o (leaf (atom x)) (node f ts) h n e = absurd cc
 alike_number float_var o (leaf (atom x)) (bind ks t) h n e = absurd cc
 alike_number float_var o (leaf (atom x)) nil h n e = absurd cc
 alike_number float_var o (leaf (atom x)) (cons t ts) h n e = absurd cc
+alike_number int_var o z u h n e = absurd h
+alike_number float_var o z u h n e = absurd h
+alike_number j o z u h n e = absurd o
 
 -- So a number variable agrees with what agrees with a term that may stand for it.
 number_before : (set : Settings) (v : Variance) (j : VarKind) → IsNumberKind j → (n : ℕ) (z u : Tree) → MayStandFor j z →
@@ -208,6 +224,7 @@ int_no_float x h o = o
 term_no_float : (w : Tree) → MayStandFor int_var w → MayStandFor float_var w → ⊥
 term_no_float (leaf (variable int_var i)) h o = o
 term_no_float (leaf (atom x)) h o = int_no_float x h o
+term_no_float w h o = absurd h
 
 -- The two kinds of numbers agree at bivariance alone.
 numbers_clash : (set : Settings) (v : Variance) (z w : Tree) → MayStandFor int_var z → MayStandFor float_var w →
@@ -236,12 +253,18 @@ numbers_clash set v (leaf (variable int_var i)) (leaf (atom y)) h k (inr (inr (i
 numbers_clash set v (leaf (atom x)) (leaf (variable float_var j)) h k (inr (inr (inr e))) = absurd cc
 numbers_clash set v (leaf (atom x)) (leaf (atom y)) h k (inr (inr (inr e))) =
     absurd (int_no_float y (int_plain y (subst IsIntegerAtom (one_atom x y e) (plain_int x h))) k)
+numbers_clash set v (leaf (variable int_var i)) w h k (inr (inr (inr e))) = absurd k
+numbers_clash set v (leaf (atom x)) w h k (inr (inr (inr e))) = absurd k
+numbers_clash set v z w h k (inr (inr (inr e))) = absurd h
 
 -- Of terms one of which may stand for a number variable, what agrees does so as no two forms.
 as_beside : (set : Settings) (c : Items) (v : Variance) (j : VarKind) → IsNumberKind j → (z u : Tree) → MayStandFor j z →
     AgreeWell set c (at v) z u → Beside set v z u
 as_beside set c v int_var o (leaf l) u h g = g
 as_beside set c v float_var o (leaf l) u h g = g
+as_beside set c v int_var o z u h g = absurd h
+as_beside set c v float_var o z u h g = absurd h
+as_beside set c v j o z u h g = absurd o
 
 as_beside_back : (set : Settings) (c : Items) (v : Variance) (j : VarKind) → IsNumberKind j → (u z : Tree) →
     MayStandFor j z → AgreeWell set c (at v) u z → Beside set v u z
@@ -255,6 +278,9 @@ as_beside_back set c v float_var o (node f ts) (leaf k) h g = g
 as_beside_back set c v float_var o (bind ks t) (leaf k) h g = g
 as_beside_back set c v float_var o nil (leaf k) h g = g
 as_beside_back set c v float_var o (cons t ts) (leaf k) h g = g
+as_beside_back set c v int_var o u z h g = absurd h
+as_beside_back set c v float_var o u z h g = absurd h
+as_beside_back set c v j o u z h g = absurd o
 
 -- A kind of variables is one of numbers, or its variables are free.
 pub data KindIs (j : VarKind) : Type 0 where
@@ -371,6 +397,9 @@ module _ (set : Settings) (c : Items) (s : Assign) (fits : (k : VarKind) (n : �
       clash float_var int_var x y p q a b g = inl (inl (numbers_clash set v (s int_var y) (s float_var x)
           (fits int_var y) (fits float_var x) (beside_back set v (s float_var x) (s int_var y)
           (as_beside set c v float_var tt (s float_var x) (s int_var y) (fits float_var x) g))))
+      clash int_var l x y p q a b g = absurd b
+      clash float_var l x y p q a b g = absurd b
+      clash i l x y p q a b g = absurd a
 
       go : KindIs j → KindIs k → Beside set v (leaf (variable j n)) (leaf (variable k m))
       go (of_free f) l = free_beside set v (leaf (variable j n)) (leaf (variable k m)) sorts (inl (f n))
