@@ -321,6 +321,7 @@ module _ (set : Settings) (c : Items) (s : Assign) (fits : (k : VarKind) (n : �
   stands_before int_var k u o h = h
   stands_before float_var k (leaf (variable i n)) o h = absurd o
   stands_before float_var k u o h = h
+  stands_before j k u o h = absurd k
 
   meets_before : (t u : Tree) → NoVar u → Shows set c s kinds u → MeetsNumber set t (apply s u) → MeetsNumber set t u
   meets_before (leaf (variable int_var n)) u o f (inl h) = inl (stands_before int_var tt u o h)
