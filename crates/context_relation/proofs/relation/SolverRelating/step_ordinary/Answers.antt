@@ -1,0 +1,49 @@
+use Rattle.std.proofs.Common.{refl, inr}
+use Rattle.relation_combining.specs.Solving.{solving_through, solver_manner}
+use Rattle.relation_steps.proofs.Sorted.{ty_sorted}
+use Rattle.context_relation.specs.Stepping.{met_again, combined}
+use Rattle.context_relation.proofs.Ordinary.{ordinary_parts, ordinary_step}
+use Rattle.context_relation.proofs.Recalling.{met_step}
+use Rattle.context_relation.proofs.Stepping.{leaves_itself}
+use Rattle.context_relation.proofs.relation.SolverRelating.step_ordinary.Goals as goal
+
+pub returns-clause-stepped : goal.returns-clause-stepped
+returns-clause-stepped g c =
+    let r = c.args.self.now in
+    let s = g.Infcx.InferCtxtLike.state r.infcx.now in
+    let was = solving_through r.structurally_relate_aliases r.infcx.ghost_name r.cache.pairs.kept r.goals.items s r.ambient_variance r.param_env in
+    met_step solver_manner was c.args.a.now c.args.b.now c.requires.lawful.0.1 (c.if-not-was_related.ensures refl)
+
+pub returns-clause-steps : goal.returns-clause-steps
+returns-clause-steps g c =
+    let r = c.args.self.now in
+    let s = g.Infcx.InferCtxtLike.state r.infcx.now in
+    let was = solving_through r.structurally_relate_aliases r.infcx.ghost_name r.cache.pairs.kept r.goals.items s r.ambient_variance r.param_env in
+    met_again (c.if-not-was_related.ensures refl) (leaves_itself was) refl
+
+pub returns-clause-remembers : goal.returns-clause-remembers
+returns-clause-remembers g c = λ n m p h. inr h
+
+pub returns-then-not-was_related-clause-stepped : goal.returns-then-not-was_related-clause-stepped
+returns-then-not-was_related-clause-stepped g c =
+    let r = c.args.self.now in
+    let s = g.Infcx.InferCtxtLike.state r.infcx.now in
+    let was = solving_through r.structurally_relate_aliases r.infcx.ghost_name r.cache.pairs.kept r.goals.items s r.ambient_variance r.param_env in
+    let cx = g.Infcx.InferCtxtLike.interner r.infcx.now in
+    let of = g.met.Infcx.InferCtxtLike.reads r.infcx.now in
+    let a = c.args.a.now in
+    let b = c.args.b.now in
+    let k = c.requires.asked in
+    let sorted = g.met.Infcx.Interner.Interner.sorted cx in
+    ordinary_step was a b c.requires.ordinary k (ty_sorted of a (sorted.ty a) k.left_known)
+    (ty_sorted of b (sorted.ty b) k.right_known) (g.met.Infcx.InferCtxtLike.sound r.infcx.now c.requires.lawful.0.0)
+
+pub returns-then-not-was_related-clause-steps : goal.returns-then-not-was_related-clause-steps
+returns-then-not-was_related-clause-steps g c =
+    let r = c.args.self.now in
+    let s = g.Infcx.InferCtxtLike.state r.infcx.now in
+    let was = solving_through r.structurally_relate_aliases r.infcx.ghost_name r.cache.pairs.kept r.goals.items s r.ambient_variance r.param_env in
+    combined (ordinary_parts was c.args.a.now c.args.b.now c.requires.ordinary)
+
+pub returns-then-not-was_related-clause-remembers : goal.returns-then-not-was_related-clause-remembers
+returns-then-not-was_related-clause-remembers g c = λ n m. refl
