@@ -1,5 +1,5 @@
 -- Two types that are neither errors, variables nor aliases, as a step of the relation of a context.
-use Rattle.std.proofs.Common.{◌≡◌, ◌≢◌, Bool, true, false, refl, inl, inr, None, Result, Ok}
+use Rattle.std.proofs.Common.{◌≡◌, ◌≢◌, Bool, true, false, refl, None, Result, Ok}
 use Rattle.relation_terms.specs.declared.terms.keys.TyKey.{TyKey}
 use Rattle.relation_terms.specs.Heads.{type_sort, type_var, int_var, float_var}
 use Rattle.relation_terms.specs.Trees.{Tree, IsTerm}
@@ -7,13 +7,12 @@ use Rattle.relation_folds.specs.declared.error.RelateFault.{RelateFault}
 use Rattle.relation_semantics.specs.declared.relate.Step.{Step}
 use Rattle.relation_semantics.specs.declared.relate.Step.TheVariants.{Parts}
 use Rattle.relation_semantics.specs.AskedAlone.{IsNoTyVar}
-use Rattle.relation_semantics.specs.Errors.{itself, IsDeferred}
+use Rattle.relation_semantics.specs.Errors.{itself}
 use Rattle.relation_semantics.specs.Lawful.{State}
 use Rattle.relation_semantics.specs.Parts.{IsFormed}
 use Rattle.relation_semantics.specs.Resolving.{formed}
-use Rattle.relation_semantics.specs.Settings.{Settings}
 use Rattle.relation_semantics.specs.Stores.{IsSound}
-use Rattle.relation_semantics.proofs.Deferring.{opaque_is_alias, beside_is_opaque}
+use Rattle.relation_semantics.proofs.Deferring.{normal_not_left}
 use Rattle.relation_semantics.proofs.Standing.{term_within}
 use Rattle.relation_steps.specs.Keyed.{SteppedTys}
 use Rattle.relation_steps.specs.Terms.{AskedTerms}
@@ -33,18 +32,12 @@ no_ty_var t o n e = o.1 (type_var, n, e)
 no_var : (t : Tree) → IsOrdinary t → IsNoVariable t
 no_var t o = (no_ty_var t o, (λ n e. o.1 (int_var, n, e), λ n e. o.1 (float_var, n, e)))
 
-not_deferred : (k : Settings) (t u : Tree) → IsOrdinary t → IsOrdinary u → IsDeferred k t u → ⊥
-not_deferred k t u o p (inl (d, inl a)) = o.2 a
-not_deferred k t u o p (inl (d, inr a)) = p.2 a
-not_deferred k t u o p (inr (d, inl a)) = o.2 (opaque_is_alias t (beside_is_opaque t u a))
-not_deferred k t u o p (inr (d, inr a)) = p.2 (opaque_is_alias u (beside_is_opaque u t a))
-
 module _ {Key Id Name : Type 0} (r : State Key Id Name) (a b : TyKey Key) (are : AreOrdinary r.meaning a b) where
   -- They are left to be related by their parts.
   pub ordinary_parts : CombinesShallowTys r r a b (Ok (Parts a b))
   ordinary_parts = no_ty_variables (no_ty_var ((r.meaning).ty a) are.0) (no_ty_var ((r.meaning).ty b) are.1)
       (not_left (are.0.0, are.1.0)
-      (not_deferred r.kept.settings ((r.meaning).ty a) ((r.meaning).ty b) are.0 are.1) refl
+      (normal_not_left r.kept.settings ((r.meaning).ty a) ((r.meaning).ty b) are.0.2 are.1.2) refl
       (by_parts (no_var ((r.meaning).ty a) are.0) (no_var ((r.meaning).ty b) are.1) refl refl))
 
   module _ (asked : AskedTerms solver_manner None (λ m. m.ty) r a b) (sa : IsTerm type_sort ((r.meaning).ty a))
@@ -60,7 +53,7 @@ module _ {Key Id Name : Type 0} (r : State Key Id Name) (a b : TyKey Key) (are :
     pub ordinary_step : IsSound r.store → SteppedTys solver_manner r r a b (Ok (Parts a b))
     ordinary_step sound = parts_step r r.meaning r.store r.lawful r.lawful (λ l. l) IsFormed ((r.meaning).ty a)
         ((r.meaning).ty b) (r.meaning).ty a b sound (itself refl) (itself refl) asked left_formed right_formed
-        (not_deferred r.kept.settings ((r.meaning).ty a) ((r.meaning).ty b) are.0 are.1)
+        (normal_not_left r.kept.settings ((r.meaning).ty a) ((r.meaning).ty b) are.0.2 are.1.2)
 
     left_read : ReadsTy r r a a
     left_read = record {
