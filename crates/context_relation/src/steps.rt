@@ -1,5 +1,5 @@
 //! What the relation of a context does of two types, constants, regions or binders that meet.
-ghost use Rattle.std.specs.Prelude.{◌≡◌, ◌≢◌, ◌<◌, Ok};
+ghost use Rattle.std.specs.Prelude.{◌≡◌, ◌≢◌, ◌<◌};
 ghost use Rattle.relation_terms.specs.Heads.{type_var, variable};
 ghost use Rattle.relation_terms.specs.Trees.{leaf};
 ghost use Rattle.term_enums.specs.declared.Variance.TheVariants.{Bivariant};
@@ -9,7 +9,6 @@ ghost use Rattle.relation_semantics.specs.ContextCalls.{IsUnresolved};
 ghost use Rattle.relation_semantics.specs.Lawful.{RelatesByDeclared};
 ghost use Rattle.relation_semantics.specs.Resolving.{IsShallow};
 ghost use Rattle.relation_steps.specs.Rounds.{AskedBinders};
-ghost use Rattle.relation_combining.specs.Deferring.{AreOrdinary};
 ghost use Rattle.relation_combining.specs.Solving.{solver_manner};
 ghost use Rattle.context_relation.specs.SolverTerms.{KeepsGoals, SolverCombinesShallow, SolverCombinesVars};
 ghost use Rattle.context_relation.specs.SolverTerms.{SolverOpened, SolverRelatedRegions, SolverAsksWellFormed};
@@ -72,9 +71,6 @@ impl<'a, Infcx: InferCtxtLike> SolverRelating<'a, Infcx> {
         if a == b {
             return Ok(Step::Done(*a));
         }
-        if are_ordinary(&*self.infcx, a, b) {
-            return Ok(self.step_ordinary(a, b));
-        }
         if have_no_variable(&*self.infcx, a, b) {
             return self.step_read(a, b);
         }
@@ -83,28 +79,9 @@ impl<'a, Infcx: InferCtxtLike> SolverRelating<'a, Infcx> {
         self.step_read(&left, &right)
     }
 
-    // What comes of two ordinary types: of a pair that is remembered the left one, and nothing is done; another is left to
-    // be related by its parts.
-    fn step_ordinary(
-        &self,
-        a: &Ty<Infcx::Interner>,
-        b: &Ty<Infcx::Interner>,
-    ) -> Step<Ty<Infcx::Interner>>
-        requires lawful { (solver_through Infcx.state self.now).lawful }
-        requires asked { SolverTakes Infcx.state (λ m. m.ty) self.now a.now b.now }
-        requires ordinary { AreOrdinary (Infcx.state self.now.infcx.now).meaning a.now b.now }
-        ensures stepped { SolverSteps Infcx.state self.now self.now a.now b.now (Ok result) }
-        ensures steps { SolverStepsRead Infcx.state self.now self.now a.now b.now (Ok result) }
-        ensures remembers { SolverRemembersRead Infcx.state self.now self.now a.now b.now (Ok result) }
-    {
-        if !self.was_related(a, b) {
-            return Step::Parts { a: *a, b: *b };
-        }
-        Step::Done(*a)
-    }
-
     // What comes of two types as they are read: of a pair that is remembered the left one, and nothing is done; of
-    // another what combining says. Where that is an answer the pair is remembered.
+    // another what combining says, which leaves ordinary types to their parts. Where that is an answer the pair is
+    // remembered.
     fn step_read(
         &mut self,
         a: &Ty<Infcx::Interner>,
@@ -121,6 +98,9 @@ impl<'a, Infcx: InferCtxtLike> SolverRelating<'a, Infcx> {
     {
         if self.was_related(a, b) {
             return Ok(Step::Done(*a));
+        }
+        if are_ordinary(&*self.infcx, a, b) {
+            return Ok(Step::Parts { a: *a, b: *b });
         }
         match self.combine_tys(a, b)? {
             Step::Done(answer) => {

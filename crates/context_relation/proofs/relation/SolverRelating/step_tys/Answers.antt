@@ -9,12 +9,11 @@ use Rattle.relation_semantics.proofs.Standing.{term_within}
 use Rattle.relation_combining.proofs.Shallowly.{read_step}
 use Rattle.relation_combining.proofs.OverContext.{all_taken, read_by_lists}
 use Rattle.context_relation.proofs.Solving.{held_kept, answered_step}
-use Rattle.relation_steps.proofs.Sorted.{one_ty, ty_sorted}
+use Rattle.relation_steps.proofs.Sorted.{one_ty}
 use Rattle.relation_semantics.specs.declared.relate.Step.TheVariants.{Done}
 use Rattle.relation_recursion.proofs.Alone.{step_of_one}
 use Rattle.context_relation.proofs.StepsAlone.{steps_alone}
 use Rattle.context_relation.specs.Stepping.{one_type, without_variables, resolved_first}
-use Rattle.context_relation.proofs.Ordinary.{left_formed, right_formed, no_ty_var, ordinary_told}
 use Rattle.context_relation.proofs.Recalling.{read_told, unless_variables}
 use Rattle.context_relation.proofs.Stepping.{leaves_itself}
 use Rattle.context_relation.proofs.relation.SolverRelating.step_tys.Goals as goal
@@ -233,57 +232,3 @@ returns-then-have_no_variable-clause-remembers g c = λ none.
 pub returns-clause-remembers : goal.returns-clause-remembers
 returns-clause-remembers g c = λ none.
     absurd (false≢true (sym none ∙ c.have_no_variable.ensures.one c.if-have_no_variable.false))
-
-pub step_ordinary-requires-clause-ordinary : goal.step_ordinary-requires-clause-ordinary
-step_ordinary-requires-clause-ordinary g c = c.are_ordinary.ensures.0 c.if-are_ordinary.true
-
-pub returns-then-are_ordinary-clause-stepped : goal.returns-then-are_ordinary-clause-stepped
-returns-then-are_ordinary-clause-stepped g c = c.step_ordinary.ensures.stepped
-
-pub returns-then-are_ordinary-clause-steps : goal.returns-then-are_ordinary-clause-steps
-returns-then-are_ordinary-clause-steps g c =
-    let r = c.args.self.now in
-    let s = g.Infcx.InferCtxtLike.state r.infcx.now in
-    let was = solving_through r.structurally_relate_aliases r.infcx.ghost_name r.cache.pairs.kept r.goals.items s r.ambient_variance r.param_env in
-    let cx = g.Infcx.InferCtxtLike.interner r.infcx.now in
-    let of = g.met.Infcx.InferCtxtLike.reads r.infcx.now in
-    let a = c.args.a.now in
-    let b = c.args.b.now in
-    let k = c.requires.asked in
-    let sorted = g.met.Infcx.Interner.Interner.sorted cx in
-    ordinary_told was a b (c.are_ordinary.ensures.0 c.if-are_ordinary.true) k (ty_sorted of a (sorted.ty a) k.left_known)
-    (ty_sorted of b (sorted.ty b) k.right_known)
-    (λ e. false≢true (c.if-eq.ensures ∙ (g.met.Infcx.Interner.Interner.same_ty cx a b
-    (subst (λ z. IsTrue (known (z.ty a))) of k.left_known)
-    (subst (λ z. IsTrue (known (z.ty b))) of k.right_known)).1 (subst (λ z. z.ty a ≡ z.ty b) of e)))
-    (Ok c.step_ordinary.result) c.step_ordinary.ensures.steps
-
-pub returns-then-are_ordinary-clause-alone : goal.returns-then-are_ordinary-clause-alone
-returns-then-are_ordinary-clause-alone g c =
-    let r = c.args.self.now in
-    let s = g.Infcx.InferCtxtLike.state r.infcx.now in
-    let was = solving_through r.structurally_relate_aliases r.infcx.ghost_name r.cache.pairs.kept r.goals.items s r.ambient_variance r.param_env in
-    let cx = g.Infcx.InferCtxtLike.interner r.infcx.now in
-    let of = g.met.Infcx.InferCtxtLike.reads r.infcx.now in
-    let a = c.args.a.now in
-    let b = c.args.b.now in
-    let k = c.requires.asked in
-    let sorted = g.met.Infcx.Interner.Interner.sorted cx in
-    let sa = ty_sorted of a (sorted.ty a) k.left_known in
-    let sb = ty_sorted of b (sorted.ty b) k.right_known in
-    let are = c.are_ordinary.ensures.0 c.if-are_ordinary.true in
-    steps_alone was was solver_manner a b (Ok c.step_ordinary.result) c.requires.lawful.0.1
-    c.step_ordinary.ensures.stepped.passes.extends k.left_known
-    (λ e. (left_formed was a b are k sa sb, right_formed was a b are k sa sb))
-    (ordinary_told was a b are k sa sb
-    (λ e. false≢true (c.if-eq.ensures ∙ (g.met.Infcx.Interner.Interner.same_ty cx a b
-    (subst (λ z. IsTrue (known (z.ty a))) of k.left_known)
-    (subst (λ z. IsTrue (known (z.ty b))) of k.right_known)).1 (subst (λ z. z.ty a ≡ z.ty b) of e)))
-    (Ok c.step_ordinary.result) c.step_ordinary.ensures.steps)
-
-pub returns-then-are_ordinary-clause-remembers : goal.returns-then-are_ordinary-clause-remembers
-returns-then-are_ordinary-clause-remembers g c = λ none.
-    let s = g.Infcx.InferCtxtLike.state c.args.self.now.infcx.now in
-    let are = c.are_ordinary.ensures.0 c.if-are_ordinary.true in
-    c.step_ordinary.ensures.remembers (no_ty_var ((s.meaning).ty c.args.a.now) are.0)
-    (no_ty_var ((s.meaning).ty c.args.b.now) are.1)
