@@ -81,7 +81,8 @@ impl VariableClasses {
     /// # Errors
     /// `OutOfMemory` where a growth was refused: then the table is as it was.
     pub fn push(&mut self) -> Result<(), OutOfMemory>
-        ensures items { self.new.items ≡ (if is_ok result then self.old.items ++ length self.old.items ∷ [] else self.old.items) }
+        ensures items { self.new.items ≡
+            (if is_ok result then self.old.items ++ length self.old.items ∷ [] else self.old.items) }
     {
         self.reserve()?;
         self.push_reserved();

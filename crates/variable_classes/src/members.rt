@@ -66,7 +66,8 @@ fn merge(members: &mut [Member], from: usize, into: usize)
     requires into_names { of_at members.old into ≡ into }
     requires apart { from ≡ into → ⊥ }
     ensures rings { AreRings members.new }
-    ensures roots { roots_of members.new ≡ lowered_roots (least_at members.old from) (least_at members.old into) (roots_of members.old) }
+    ensures roots { roots_of members.new ≡
+        lowered_roots (least_at members.old from) (least_at members.old into) (roots_of members.old) }
 {
     let first = members[from];
     let second = members[into];

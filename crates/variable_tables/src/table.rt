@@ -132,7 +132,8 @@ impl<K: Copy> VariableTable<K> {
     /// # Errors
     /// `OutOfMemory` where a growth was refused: then the table is as it was.
     pub fn push(&mut self, key: K, universe: UniverseIndex) -> Result<(), OutOfMemory>
-        ensures items { self.new.items ≡ (if is_ok result then self.old.items ++ free_variable key universe ∷ [] else self.old.items) }
+        ensures items { self.new.items ≡
+            (if is_ok result then self.old.items ++ free_variable key universe ∷ [] else self.old.items) }
     {
         self.classes.reserve()?;
         self.rows.push(Row {
