@@ -1,9 +1,9 @@
 //! What the names of a text mean so far, and the program that was made so far.
 
-use crate::naming::binders::scopes_of;
+use crate::naming::binders::{Bound, scopes_of};
 use crate::naming::error::{NameError, Wrong, error_at};
 use crate::naming::plain::PLAIN;
-use crate::naming::program::{Mode, Program, Setup, Sort, Term};
+use crate::naming::program::{Mode, Parts, Program, Setup, Sort, Term};
 use crate::reading::{Node, Tree};
 use std::alloc::{AllocError, Global};
 use std::collections::HashMap;
@@ -41,13 +41,15 @@ pub(super) struct Namer<'a> {
     pub made: Vec<Option<Made>>,
     // The binder that each node stands in, if it stands in one: the nearest, by the node of what it binds.
     pub scopes: Vec<Option<usize>>,
-    // The places of what binders bind, by the binder and the name.
-    pub bound: HashMap<(usize, &'a str), usize>,
+    // What binders bind, by the binder and the name.
+    pub bound: HashMap<(usize, &'a str), Bound>,
     // The index of the next parameter, while there is one.
     pub next_index: Option<u32>,
     // How the contexts of the questions behind this are made.
     pub setup: Setup,
     pub budget: Option<usize>,
+    // What these assume: predicates of a range of the program's list.
+    pub assumed: Parts,
     // The trait whose statement this is, by its number: in it the trait's own parameters have names.
     pub stating: Option<usize>,
     pub program: Program<'a>,
@@ -72,6 +74,10 @@ impl<'a> Namer<'a> {
                 mode: Mode::Analysis,
             },
             budget: None,
+            assumed: Parts {
+                first: 0,
+                behind: 0,
+            },
             stating: None,
             program: Program {
                 items: Vec::new(alloc),
@@ -82,6 +88,7 @@ impl<'a> Namer<'a> {
                 skips: Vec::new(alloc),
                 variables: Vec::new(alloc),
                 clauses: Vec::new(alloc),
+                methods: Vec::new(alloc),
                 stated: Vec::new(alloc),
                 sized: Vec::new(alloc),
                 questions: Vec::new(alloc),

@@ -1,4 +1,4 @@
-//! Predicates, and what traits state.
+//! Predicates, what traits state, and what is assumed.
 
 use crate::naming::error::{NameError, Wrong, error_at};
 use crate::naming::namer::{Made, Namer};
@@ -80,6 +80,12 @@ impl<'a> Namer<'a> {
         Ok(())
     }
 
+    // What questions behind this assume.
+    pub fn assume(&mut self, node: &Node, numbers: &[usize]) -> Result<(), NameError> {
+        self.assumed = self.clauses(node, numbers)?;
+        Ok(())
+    }
+
     // Predicates have to claim that a trait is implemented, each.
     pub fn each_implements(&self, node: &Node, clauses: Parts) -> Result<(), NameError> {
         let found = self.program.clauses.get(clauses.first..clauses.behind);
@@ -129,7 +135,7 @@ impl<'a> Namer<'a> {
     }
 
     // What is claimed of a trait.
-    fn claims(
+    pub fn claims(
         &mut self,
         node: &Node,
         claim: Claim,

@@ -119,6 +119,8 @@ pub enum Form {
     States(StatedKind),
     /// The trait that states the predicates behind it: its name.
     Stating,
+    /// What is assumed from here on, in place of what was: the predicates, if any.
+    Assumes,
     /// The trait that the language knows as `Sized`: its name.
     IsSized,
     /// That a type implements a trait, or not: the `Bound` of the binder, the type, and the `Named` of the trait.
@@ -173,6 +175,18 @@ pub enum Form {
     One,
     /// What a variable is bound to: the variable.
     Binding,
+    /// Whether two impls overlap: the `ImplHeader` of each.
+    Overlap,
+    /// The header of an impl: the `Generics` that it is under, the `Named` of the trait, and the type that implements it.
+    ImplHeader,
+    /// What an impl, or the type of a method, is generic over: a `Declared` or a `DeclaredConst` for each.
+    Generics,
+    /// Which methods of a table may be for a type: the `Method`s, and the type.
+    Methods,
+    /// A method: the `Generics` that the type is under which it is for, the type, and the method's name.
+    Method,
+    /// Whether what a relation records of regions can hold: an `Outlives` for each fact about regions.
+    Solve,
     /// A list of terms.
     Terms,
     /// A term, and the one that is put for it.
