@@ -7,3 +7,4 @@ pub mod WalkLemmas
 pub mod OutlivesLemmas
 pub mod AssumeLemmas
 pub mod Universes
+pub mod EnvironmentLemmas

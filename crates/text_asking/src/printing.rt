@@ -14,6 +14,7 @@ ghost use Rattle.variable_tables.specs.declared.inner.VariableValue.TheVariants.
 ghost use Rattle.relation_reference.specs.RefCtxt.{store_in};
 ghost use Rattle.text_asking.specs.Asking.{AreBoundKnown, KnowsRelated};
 
+use crate::environment::write_environment;
 use relation_folds::error::{ExpectedFound, RelateFault, TypeError, TypeErrorOf};
 use relation_reference::context::{RefCtxt, VariableTable, VariableValue};
 use relation_terms::predicate::{ClauseKind, PredicateKind, RegionConstraint};
@@ -322,7 +323,7 @@ fn write_goal_terms<I: Interner, W: Write>(
     }
 }
 
-// Writes a goal: the name of what it asks, and of its parts those that have a text.
+// Writes a goal: the name of what it asks, of its parts those that have a text, and what it assumes, if anything.
 fn write_goal<I: Interner, W: Write>(
     cx: &I,
     texts: &TextsOf<I>,
@@ -333,7 +334,8 @@ fn write_goal<I: Interner, W: Write>(
 {
     let predicate = cx.predicate_kind(&goal.predicate).value;
     out.write_str(predicate_name(&predicate))?;
-    write_goal_terms(cx, texts, &predicate, out)
+    write_goal_terms(cx, texts, &predicate, out)?;
+    write_environment(cx, texts, &goal.param_env, out)
 }
 
 // Writes the goals that a relation leaves, if any, in the order in which they were registered.

@@ -10,6 +10,7 @@ ghost use Rattle.text_asking.specs.Asking.{AllReady, IsReady, IsSetUp, KnowsAnsw
 use crate::BUDGET;
 use crate::context::{NotAsked, have_all_stated, have_variables, refusal, relate, renewed};
 use crate::elaborating::{ask_elaborated, ask_supertrait_ids, ask_supertraits, told};
+use crate::environment::environment_of;
 use crate::folding::{fold, puts_at};
 use crate::lists::ask_args_related;
 use crate::outliving::{ask_assumptions, ask_components};
@@ -118,10 +119,11 @@ pub(super) fn type_of<I: Interner>(terms: &Ready<I>, number: usize) -> Option<(T
     Some((ty, need_at(terms.needs, number)))
 }
 
-// Asks in a context whether two types are related.
+// Asks in a context whether two types are related where that is assumed.
 fn ask_related<I: Interner>(
     ctx: &mut RefCtxt<I>,
     terms: &Ready<I>,
+    assumed: Parts,
     lhs: usize,
     relation: Relation,
     rhs: usize,
@@ -144,9 +146,7 @@ fn ask_related<I: Interner>(
     let Ok(()) = have_variables(ctx, both(lhs_needs, rhs_needs)) else {
         return Err(Unasked::Memory);
     };
-    let Ok(param_env) = ctx.interner.empty_param_env() else {
-        return Err(Unasked::Memory);
-    };
+    let param_env = environment_of(&mut ctx.interner, terms, assumed)?;
     let span = ctx.interner.dummy_span();
     Ok(relate(ctx, param_env, lhs, relation, rhs, span))
 }
@@ -287,7 +287,7 @@ fn ask<I: SizedKeys>(ctx: &mut RefCtxt<I>, terms: &Ready<I>, question: &Question
 {
     match question.kind {
         QuestionKind::Relate { lhs, relation, rhs } => {
-            let related = ask_related(ctx, terms, lhs, relation, rhs)?;
+            let related = ask_related(ctx, terms, question.assumed, lhs, relation, rhs)?;
             Ok(Answer::Related(related))
         }
         QuestionKind::Visit { term, skip, stop } => {
@@ -339,7 +339,7 @@ fn ask<I: SizedKeys>(ctx: &mut RefCtxt<I>, terms: &Ready<I>, question: &Question
             Ok(Answer::Is(may))
         }
         QuestionKind::RelateArgs { lhs, rhs } => {
-            let related = ask_args_related(ctx, terms, lhs, rhs)?;
+            let related = ask_args_related(ctx, terms, question.assumed, lhs, rhs)?;
             Ok(Answer::Related(related))
         }
         QuestionKind::Key { params, ty } => {

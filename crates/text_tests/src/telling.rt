@@ -36,6 +36,8 @@ const WRONG: &str = "\
     budget x; => text:1:8: expected a number, found `x`\n\
     solver 2; => text:1:8: expected a name, found `2`\n\
     mode then; => text:1:6: expected a name, found `then`\n\
+    assume u8; => text:1:10: expected `:`, found `;`\n\
+    trait Tr; assume u8: Tr,; => text:1:25: expected a term, found `;`\n\
     T == = T; => text:1:6: expected a term, found `=`\n\
     variables ?i0; => text:1:11: expected a variable, found `?i0`\n\
     variables in 1; => text:1:11: expected a variable, found `in`\n\

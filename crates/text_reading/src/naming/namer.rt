@@ -3,7 +3,7 @@
 use crate::naming::binders::scopes_of;
 use crate::naming::error::{NameError, Wrong, error_at};
 use crate::naming::plain::PLAIN;
-use crate::naming::program::{Mode, Program, Setup, Sort, Term};
+use crate::naming::program::{Mode, Parts, Program, Setup, Sort, Term};
 use crate::reading::{Node, Tree};
 use std::alloc::{AllocError, Global};
 use std::collections::HashMap;
@@ -48,6 +48,8 @@ pub(super) struct Namer<'a> {
     // How the contexts of the questions behind this are made.
     pub setup: Setup,
     pub budget: Option<usize>,
+    // What these assume: predicates of a range of the program's list.
+    pub assumed: Parts,
     // The trait whose statement this is, by its number: in it the trait's own parameters have names.
     pub stating: Option<usize>,
     pub program: Program<'a>,
@@ -72,6 +74,10 @@ impl<'a> Namer<'a> {
                 mode: Mode::Analysis,
             },
             budget: None,
+            assumed: Parts {
+                first: 0,
+                behind: 0,
+            },
             stating: None,
             program: Program {
                 items: Vec::new(alloc),

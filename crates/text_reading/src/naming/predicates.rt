@@ -1,4 +1,4 @@
-//! Predicates, and what traits state.
+//! Predicates, what traits state, and what is assumed.
 
 use crate::naming::error::{NameError, Wrong, error_at};
 use crate::naming::namer::{Made, Namer};
@@ -77,6 +77,12 @@ impl<'a> Namer<'a> {
         }
         self.stating = None;
         self.program.stated.push(Stated { of, kind, clauses })?;
+        Ok(())
+    }
+
+    // What questions behind this assume.
+    pub fn assume(&mut self, node: &Node, numbers: &[usize]) -> Result<(), NameError> {
+        self.assumed = self.clauses(node, numbers)?;
         Ok(())
     }
 

@@ -311,6 +311,8 @@ pub struct Question {
     pub setup: Setup,
     /// How many instantiations its context may make, if that was said.
     pub budget: Option<usize>,
+    /// The predicates that are assumed, its environment: those of a range of the program's list.
+    pub assumed: Parts,
     /// How many statements of the program say which variables its context has, beside those that it names.
     pub variables: usize,
 }
@@ -339,7 +341,7 @@ pub struct Program<'a> {
     pub skips: Vec<usize>,
     /// The variables that contexts have, in the order of their universes.
     pub variables: Vec<Variables>,
-    /// The predicates that traits state, and those of questions.
+    /// The predicates that traits state, those that are assumed, and those of questions.
     pub clauses: Vec<Clause>,
     pub stated: Vec<Stated>,
     /// The traits, by their numbers, that the language knows as `Sized`.

@@ -16,6 +16,7 @@ impl<'a> Namer<'a> {
             repeat: 1,
             setup: self.setup,
             budget: self.budget,
+            assumed: self.assumed,
             variables,
         })?;
         Ok(())

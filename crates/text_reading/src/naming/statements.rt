@@ -277,6 +277,7 @@ impl<'a> Namer<'a> {
             (Form::IsSized, [name]) => self.declare_sized(node, *name),
             (Form::Stating, [name]) => self.begin_stating(node, *name),
             (Form::States(kind), [_, clauses @ ..]) => self.state(node, kind, clauses),
+            (Form::Assumes, _) => self.assume(node, parts),
             _ => self.question(node, form, parts),
         }
     }

@@ -33,6 +33,7 @@ pub enum Sign {
     After,
     Args,
     As,
+    Assume,
     Assumptions,
     At,
     Auto,
@@ -97,7 +98,7 @@ pub enum Sign {
 }
 
 // Each sign and its text, in the order of the texts.
-static SIGNS: [(Sign, &str); 89] = [
+static SIGNS: [(Sign, &str); 90] = [
     (Sign::Bang, "!"),
     (Sign::AbiC, "\"C\""),
     (Sign::AbiSystem, "\"system\""),
@@ -126,6 +127,7 @@ static SIGNS: [(Sign, &str); 89] = [
     (Sign::After, "after"),
     (Sign::Args, "args"),
     (Sign::As, "as"),
+    (Sign::Assume, "assume"),
     (Sign::Assumptions, "assumptions"),
     (Sign::At, "at"),
     (Sign::Auto, "auto"),

@@ -119,6 +119,8 @@ pub enum Form {
     States(StatedKind),
     /// The trait that states the predicates behind it: its name.
     Stating,
+    /// What is assumed from here on, in place of what was: the predicates, if any.
+    Assumes,
     /// The trait that the language knows as `Sized`: its name.
     IsSized,
     /// That a type implements a trait, or not: the `Bound` of the binder, the type, and the `Named` of the trait.

@@ -1,7 +1,7 @@
 //! How statements are written.
 use crate::reading::error::Expected;
 use crate::reading::shapes::Makes::Node;
-use crate::reading::shapes::Piece::{Further, Leaf, List, Mark, NextTwo, OneOf, Part};
+use crate::reading::shapes::Piece::{Further, Leaf, List, Mark, NextTwo, OneOf, Part, Unless};
 use crate::reading::shapes::{ITSELF, Line, Shape, Sort};
 use crate::reading::signs::Sign;
 use crate::reading::tree::{Form, ItemSort, Setting, StatedKind};
@@ -11,7 +11,7 @@ use term_enums::Variance;
 const TYPE_OR_CONST: Expected = Expected::Either(Sign::Type, Sign::Const);
 
 // A statement, without the `;` behind it. A function pointer that begins one is asked about.
-pub(in crate::reading) static STATEMENT: [Shape; 30] = [
+pub(in crate::reading) static STATEMENT: [Shape; 31] = [
     (
         ITSELF,
         &[NextTwo(Sign::Fn, Sign::LeftParen), Part(Sort::Question)],
@@ -216,6 +216,10 @@ pub(in crate::reading) static STATEMENT: [Shape; 30] = [
             Mark(Sign::Param),
             List(Sort::Parameter, Line::By(Sign::Comma)),
         ],
+    ),
+    (
+        Node(Form::Assumes),
+        &[Mark(Sign::Assume), Unless(Sign::Semicolon, Sort::Predicate)],
     ),
     (
         Node(Form::Sets(Setting::Budget)),
