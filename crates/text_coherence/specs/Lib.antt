@@ -1,2 +1,3 @@
 pub mod Fixed
 pub mod Asked
+pub mod Found
