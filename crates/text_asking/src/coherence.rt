@@ -105,13 +105,13 @@ pub(super) fn write_overlap<I: Interner, W: Write>(
     ctx: &RefCtxt<I>,
     texts: &TextsOf<I>,
     of: TraitId<I::Id>,
-    result: &OverlapResult<I>,
+    told: &OverlapResult<I>,
     out: &mut W,
 ) -> fmt::Result
     requires lawful { IsLawful (I.meaning ctx.now.interner) ctx.now.inner }
-    requires known { KnowsOverlap (I.meaning ctx.now.interner) result.now }
+    requires known { KnowsOverlap (I.meaning ctx.now.interner) told.now }
 {
-    match result {
+    match told {
         Ok(Overlap::Apart(WhyApart::ByForm)) => out.write_str("apart by form"),
         Ok(Overlap::Apart(WhyApart::ByRelating(why))) => {
             out.write_str("apart: ")?;
