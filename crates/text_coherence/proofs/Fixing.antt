@@ -150,7 +150,7 @@ named_atom (unstable_feature n) h = tt
 named_atom ambiguous h = tt
 
 named : (l : Leaf) → IsFixedLeaf l → IsNamed (λ i. i) (λ i. i) l
-named (variable k n) h = absurd (cc)
+named (variable k n) h = tt
 named (bound k d i) h = tt
 named (placeholder k u n) h = tt
 named (atom x) h = named_atom x h
