@@ -15,6 +15,8 @@ returns g c =
     let found = c.in_ok-found.found.items in
     let all = take_all l.entry-index c.deref-entry-items.result.now (omega (arith, past))
     ∙ c.deref-entry-items.ensures.value in
-    all_found (g.I.Interner.meaning c.args.cx.now) c.args.ty.now c.args.methods.now c.in_ok-table.table
-    (map (λ r. r.now) found) l.names.items c.in_ok-table.ensures.holds c.in_ok-found.ensures.no_loss
-    (l.invariant ∙ ap (map (λ r. (r.now).value)) all ∙ mapped_twice found (λ r. r.now) (λ e. e.value))
+    record {
+      no_loss = all_found (g.I.Interner.meaning c.args.cx.now) c.args.ty.now c.args.methods.now c.in_ok-table.table
+          (map (λ r. r.now) found) l.names.items c.in_ok-table.ensures.holds c.in_ok-found.ensures.no_loss
+          (l.invariant ∙ ap (map (λ r. (r.now).value)) all ∙ mapped_twice found (λ r. r.now) (λ e. e.value));
+    }
