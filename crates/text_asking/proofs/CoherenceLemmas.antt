@@ -2,7 +2,7 @@
 use Rattle.std.proofs.Common.{◌≡◌, List, [], ◌∷◌, ◌++◌, Option, Some, None, IsTrue, subst, sym}
 use Rattle.std.proofs.lemmas.List.Elements.{All-push, All-weaker}
 use Rattle.relation_terms.specs.Heads.{BoundKind}
-use Rattle.relation_terms.specs.Trees.{Tree, known}
+use Rattle.relation_terms.specs.Trees.{known}
 use Rattle.relation_terms.specs.Meaning.{Meaning, Extends, under}
 use Rattle.relation_terms.specs.Predicates.{trait_ref_tree}
 use Rattle.relation_terms.specs.Owned.{bound_tree}

@@ -10,7 +10,6 @@ use Rattle.relation_terms.specs.Heads.{existential_auto, unstable_feature, ambig
 use Rattle.relation_terms.specs.Trees.{Tree, leaf, node, bind, nil, cons, Leaves}
 use Rattle.relation_terms.specs.Parts.{parts_of}
 use Rattle.relation_terms.specs.Orders.{Order, in_turn, first_last, behind, in_order, order_of}
-use Rattle.relation_folds.specs.declared.visit.Visit.{Visit}
 use Rattle.relation_folds.specs.declared.visit.Visit.TheVariants.{Enter, Skip, Stop}
 use Rattle.relation_folds.specs.Visits.{is_visited, Flow, Walks, entered, skipped, stopped}
 use Rattle.relation_folds.specs.Visits.{passed_leaf, passed, in_binder, no_part, last_part, next_part}
