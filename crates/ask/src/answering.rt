@@ -7,7 +7,7 @@ use std::fmt::{self, Write};
 use std::io::{self, ErrorKind, Read};
 use text_asking::ask_all;
 use text_reading::naming::{Program, look_up};
-use text_reading::reading::read;
+use text_reading::reading::{ReadError, Tree, place_of, read};
 use text_reading::telling::{Lines, tell_unnamed, tell_unread};
 
 /// The status where all was read and asked.
@@ -28,6 +28,59 @@ const ENOUGH: u64 = 1_048_577;
 /// Whether that word stands for standard input.
 pub fn is_stdin(word: &str) -> bool {
     word == "-"
+}
+
+/// Whether that word asks how the program is used.
+pub fn is_help(word: &str) -> bool {
+    word == "--help"
+}
+
+/// Writes how the program is used, on a line.
+///
+/// # Errors
+/// What the writer answers where it takes no more.
+pub fn write_usage<W: io::Write>(out: &mut W) -> io::Result<()> {
+    writeln!(out, "usage: ask [FILE]")
+}
+
+// Writes how the program is used, what its status says, and where the language is told.
+fn write_help<O: io::Write>(out: &mut O) -> io::Result<()> {
+    write_usage(out)?;
+    writeln!(
+        out,
+        "Answers the questions of a file, or of standard input for `-` or no word, each on a line of its own."
+    )?;
+    writeln!(
+        out,
+        "The status is 0 where all was asked, 2 where the text is wrong or can't be read, 1 where an answer can't be written."
+    )?;
+    writeln!(out, "pages:")?;
+    writeln!(
+        out,
+        "  docs/QUESTIONS.md    how questions are written, and how answers are read"
+    )?;
+    writeln!(
+        out,
+        "  docs/DEFINITIONS.md  what it means that two terms are related"
+    )?;
+    writeln!(
+        out,
+        "  docs/PROVED.md       what is proved of answers, and what is not"
+    )?;
+    out.flush()
+}
+
+/// Prints how the program is used, and gives the status. Where that can't be written, `err` is told why.
+pub fn print_help<O: io::Write, E: io::Write>(out: &mut O, err: &mut E) -> u8
+    ensures status { result ≤ 1 }
+{
+    match write_help(out) {
+        Ok(()) => ANSWERED,
+        Err(error) => {
+            let _ = writeln!(err, "standard output: {error}");
+            UNWRITTEN
+        }
+    }
 }
 
 /// The bytes of a reader, as many as are needed to see that they are too many.
@@ -101,8 +154,43 @@ fn write_all<O: io::Write>(alloc: Global, program: &Program, out: &mut O) -> io:
     }
 }
 
+// Answers the questions of a text of which this is the tree.
+fn answer_tree<O: io::Write, E: io::Write>(
+    alloc: Global,
+    name: &str,
+    text: &str,
+    tree: &Tree,
+    out: &mut O,
+    err: &mut Lines<'_, E>,
+) -> u8
+    ensures status { result ≤ 2 }
+{
+    let program = match look_up(alloc, text, tree) {
+        Ok(program) => program,
+        Err(error) => {
+            let _ = tell_unnamed(name, text, &error, err);
+            return WRONG;
+        }
+    };
+    match write_all(alloc, &program, out) {
+        Ok(()) => ANSWERED,
+        Err(error) => {
+            let _ = writeln!(err, "standard output: {error}");
+            UNWRITTEN
+        }
+    }
+}
+
+// Tells that the byte at a place of a text is not UTF-8.
+fn tell_no_utf8<W: Write>(name: &str, bytes: &[u8], at: usize, out: &mut W) -> fmt::Result {
+    let place = place_of(bytes, at.min(bytes.len()));
+    let (line, column) = (place.line, place.column);
+    writeln!(out, "{name}:{line}:{column}: the byte here is not UTF-8")
+}
+
 /// Answers the questions of a text, each on a line of its own, and gives the status. Where the text is wrong, `err` is
-/// told so, and nothing is answered; where an answer can't be written, it is told why.
+/// told so, and nothing is answered: of a text that is read whole, a byte that is not UTF-8 is told before all else.
+/// Where an answer can't be written, `err` is told why.
 pub fn answer<O: io::Write, E: io::Write>(
     alloc: Global,
     name: &str,
@@ -113,29 +201,15 @@ pub fn answer<O: io::Write, E: io::Write>(
     ensures status { result ≤ 2 }
 {
     let mut err = Lines { out: err };
-    let tree = match read(alloc, bytes) {
-        Ok(tree) => tree,
-        Err(error) => {
+    match (read(alloc, bytes), str::from_utf8(bytes)) {
+        (Ok(tree), Ok(text)) => answer_tree(alloc, name, text, &tree, out, &mut err),
+        (Err(error), Ok(_)) | (Err(error @ (ReadError::Memory | ReadError::TooLong)), Err(_)) => {
             let _ = tell_unread(name, bytes, &error, &mut err);
-            return WRONG;
+            WRONG
         }
-    };
-    let Ok(text) = str::from_utf8(bytes) else {
-        let _ = writeln!(err, "{name}: the text is not UTF-8");
-        return WRONG;
-    };
-    let program = match look_up(alloc, text, &tree) {
-        Ok(program) => program,
-        Err(error) => {
-            let _ = tell_unnamed(name, text, &error, &mut err);
-            return WRONG;
-        }
-    };
-    match write_all(alloc, &program, out) {
-        Ok(()) => ANSWERED,
-        Err(error) => {
-            let _ = writeln!(err, "standard output: {error}");
-            UNWRITTEN
+        (_, Err(error)) => {
+            let _ = tell_no_utf8(name, bytes, error.valid_up_to(), &mut err);
+            WRONG
         }
     }
 }

@@ -3,7 +3,9 @@
 
 mod answering;
 
-use answering::{STDIN, WRONG, answer, bytes_of, is_stdin, tell_unbegun};
+use answering::{
+    STDIN, WRONG, answer, bytes_of, is_help, is_stdin, print_help, tell_unbegun, write_usage,
+};
 use std::io::{BufWriter, Write};
 use std::process::ExitCode;
 use std::{env, fs, io};
@@ -25,10 +27,13 @@ fn main(rt: HostRuntime) -> io::Result<ExitCode> {
         Err(error) => return Ok(ExitCode::from(tell_unbegun(&error, &mut err))),
     };
     if words.len() > 1 {
-        let _ = writeln!(err, "usage: ask [FILE]");
+        let _ = write_usage(&mut err);
         return Ok(ExitCode::from(WRONG));
     }
     let name = words.first().map_or("-", |word| word.as_str());
+    if is_help(name) {
+        return Ok(ExitCode::from(print_help(&mut out, &mut err)));
+    }
     let (name, bytes) = if is_stdin(name) {
         (STDIN, bytes_of(rt.alloc(), rt.stdin()))
     } else {

@@ -1,9 +1,9 @@
 //! How rows are asked, and the program's runs.
 ghost use Rattle.std.specs.Prelude.{◌≡◌, ◌<◌, ◌≤◌, IfSome, length, slice_get, string_bytes};
-ghost use Rattle.relation_rows.specs.Named.{IsRow};
+ghost use Rattle.relation_rows.specs.Named.{IsHelp, IsRow};
 
 use crate::calls::call;
-use crate::row_names::is_row;
+use crate::row_names::{is_help, is_row};
 use crate::rows::{EARLY_ROWS, LATE_ROWS, Row};
 use std::alloc::Global;
 use std::io;
@@ -169,8 +169,70 @@ fn print_rows<O: io::Write, E: io::Write>(
     }
 }
 
-/// Runs one row or all, and answers the status: 2 where the words name no row, 1 where an answer is not the stored
-/// one, a row's text is wrong, or a write failed.
+// Writes the names of rows, each behind a blank.
+fn write_names_of<W: io::Write>(rows: &[Row], out: &mut W) -> io::Result<()> {
+    for row in rows {
+        let name = row.name;
+        write!(out, " {name}")?;
+    }
+    Ok(())
+}
+
+// Of the early rows.
+fn write_early_names<W: io::Write>(out: &mut W) -> io::Result<()> {
+    write_names_of(&EARLY_ROWS, out)
+}
+
+// Of the late rows.
+fn write_late_names<W: io::Write>(out: &mut W) -> io::Result<()> {
+    write_names_of(&LATE_ROWS, out)
+}
+
+// Writes which rows there are, and ends the line.
+fn write_names<W: io::Write>(out: &mut W) -> io::Result<()> {
+    write!(out, "rows:")?;
+    write_early_names(out)?;
+    write_late_names(out)?;
+    writeln!(out)
+}
+
+// Writes how the program is used.
+fn write_usage<W: io::Write>(out: &mut W) -> io::Result<()> {
+    writeln!(out, "usage: relations [name]")
+}
+
+// Writes how the program is used, and which rows there are.
+fn write_help<W: io::Write>(out: &mut W) -> io::Result<()> {
+    write_usage(out)?;
+    writeln!(
+        out,
+        "Prints the answers of the row of that name, or of all rows."
+    )?;
+    write_names(out)
+}
+
+// Prints how the program is used. The status is 1 if a write failed: then `err` is told why.
+fn print_help<O: io::Write, E: io::Write>(out: &mut O, err: &mut E) -> u8
+    ensures { result ≤ 1 }
+{
+    match write_help(out) {
+        Ok(()) => 0,
+        Err(error) => {
+            let _ = writeln!(err, "standard output: {error}");
+            1
+        }
+    }
+}
+
+// Tells that no row has that name, and which names they have.
+fn write_unknown<W: io::Write>(name: &str, out: &mut W) -> io::Result<()> {
+    writeln!(out, "unknown row: {name}")?;
+    write_names(out)
+}
+
+/// Runs one row or all, or prints how the program is used and which rows there are, and answers the status: 2 where the
+/// words name no row, 1 where an answer is not the stored one, a row's text is wrong, or a write failed. Where a row is
+/// not known, `err` is told which there are.
 pub fn run<O: io::Write, E: io::Write>(
     alloc: Global,
     words: &[String],
@@ -181,17 +243,23 @@ pub fn run<O: io::Write, E: io::Write>(
     ensures all { length words.now ≡ 0 → result ≤ 1 }
     ensures row { length words.now ≤ 1 →
         IfSome (slice_get words.now 0) (λ w. IsRow (string_bytes w) → result ≤ 1) }
-    ensures no_row { IfSome (slice_get words.now 0) (λ w. (IsRow (string_bytes w) → ⊥) → result ≡ 2) }
+    ensures help { length words.now ≤ 1 →
+        IfSome (slice_get words.now 0) (λ w. IsHelp (string_bytes w) → result ≤ 1) }
+    ensures no_row { IfSome (slice_get words.now 0)
+        (λ w. (IsRow (string_bytes w) → ⊥) → (IsHelp (string_bytes w) → ⊥) → result ≡ 2) }
 {
     if words.len() > 1 {
-        let _ = writeln!(err, "usage: relations [name]");
+        let _ = write_usage(err);
         return 2;
     }
     let Some(name) = words.first() else {
         return print_rows(alloc, None, out, err);
     };
+    if is_help(name.as_str()) {
+        return print_help(out, err);
+    }
     if !is_row(name.as_str()) {
-        let _ = writeln!(err, "unknown row: {name}");
+        let _ = write_unknown(name.as_str(), err);
         return 2;
     }
     print_rows(alloc, Some(name.as_str()), out, err)

@@ -7,3 +7,5 @@ pub mod WalkLemmas
 pub mod OutlivesLemmas
 pub mod AssumeLemmas
 pub mod Universes
+pub mod EnvironmentLemmas
+pub mod CoherenceLemmas

@@ -3,15 +3,16 @@
 use crate::context::NotAsked;
 use crate::question::Unasked;
 use std::alloc::{AllocError, Global};
-use text_elaboration::pulls::LIMIT;
 use text_needs::needs::{Needs, need_at};
-use text_reading::naming::{Parts, Program, Question, QuestionKind, Says, Term};
+use text_reading::naming::{
+    Parts, Program, Question, QuestionKind, Says, Term, VariableId, VariableKind,
+};
 
 // How many terms with variables a chain may lead through, and by how many levels elaborating may make terms deeper.
 // Relating, elaborating and printing go down a term level by level, on the program's stack. A term of a text has few
 // levels, but variables may be bound to terms in which others stand, and a trait may state itself of a larger type. The
 // stack holds twice as many levels beside those of a text's term (docs/DECISIONS.md).
-const MOST: usize = 1_024;
+pub(super) const MOST: usize = 1_024;
 
 // Whether variables may come to stand in a term that is this: it is one, or what a binder binds, which is read as one.
 fn is_variable(term: &Term) -> bool {
@@ -27,7 +28,11 @@ fn is_variable(term: &Term) -> bool {
 }
 
 // Adds the numbers of a range.
-fn push_range(numbers: &[usize], range: Parts, found: &mut Vec<usize>) -> Result<(), AllocError> {
+pub(super) fn push_range(
+    numbers: &[usize],
+    range: Parts,
+    found: &mut Vec<usize>,
+) -> Result<(), AllocError> {
     for number in numbers.get(range.first..range.behind).unwrap_or(&[]) {
         found.push(*number)?;
     }
@@ -35,7 +40,11 @@ fn push_range(numbers: &[usize], range: Parts, found: &mut Vec<usize>) -> Result
 }
 
 // Adds the numbers of a term's parts, but for regions.
-fn push_parts(numbers: &[usize], term: &Term, found: &mut Vec<usize>) -> Result<(), AllocError> {
+pub(super) fn push_parts(
+    numbers: &[usize],
+    term: &Term,
+    found: &mut Vec<usize>,
+) -> Result<(), AllocError> {
     match term {
         Term::Slice(part) => found.push(*part)?,
         Term::RawPtr(part, _) => found.push(*part)?,
@@ -59,87 +68,6 @@ fn push_parts(numbers: &[usize], term: &Term, found: &mut Vec<usize>) -> Result<
         _ => {}
     }
     Ok(())
-}
-
-// Whether a parameter is put in its place where what a trait states is used.
-fn is_parameter(term: &Term) -> bool {
-    matches!(term, Term::TyParam(..) | Term::ConstParam(..))
-}
-
-// The number at a place of a list, or 0.
-fn level_at(levels: &[usize], number: usize) -> usize {
-    levels.get(number).copied().unwrap_or(0)
-}
-
-// How deep parameters stand in each term of a program, itself counted: 0 where none does.
-fn parameter_levels(alloc: Global, program: &Program) -> Result<Vec<usize>, AllocError> {
-    let mut levels = Vec::with_capacity(alloc, program.terms.len())?;
-    let mut parts = Vec::new(alloc);
-    for term in &program.terms {
-        parts.clear();
-        push_parts(&program.parts, term, &mut parts)?;
-        let mut level = if is_parameter(term) { 1 } else { 0 };
-        for part in &parts {
-            let below = level_at(&levels, *part);
-            if below > 0 {
-                level = below.saturating_add(1).max(level);
-            }
-        }
-        levels.push(level)?;
-    }
-    Ok(levels)
-}
-
-// Adds the numbers of the terms of a predicate.
-fn push_said(numbers: &[usize], says: &Says, found: &mut Vec<usize>) -> Result<(), AllocError> {
-    match says {
-        Says::Claims(_, _, args) => push_range(numbers, *args, found)?,
-        Says::TypeOutlives(ty, _) => found.push(*ty)?,
-        Says::ComesTo(_, _, args, term) => {
-            found.push(*term)?;
-            push_range(numbers, *args, found)?;
-        }
-        Says::WellFormed(term) => found.push(*term)?,
-        Says::ConstEvaluatable(constant) => found.push(*constant)?,
-        Says::ConstArgHasType(constant, ty) => found.extend_from_slice(&[*constant, *ty])?,
-        Says::RegionOutlives(..) | Says::UnstableFeature(_) => {}
-    }
-    Ok(())
-}
-
-// By how many levels the terms of what a trait states are deeper at most than those that it is stated of.
-fn growth_of(alloc: Global, program: &Program) -> Result<usize, AllocError> {
-    if program.stated.is_empty() {
-        return Ok(0);
-    }
-    let levels = parameter_levels(alloc, program)?;
-    let mut terms = Vec::new(alloc);
-    for stated in &program.stated {
-        let range = stated.clauses;
-        for clause in program
-            .clauses
-            .get(range.first..range.behind)
-            .unwrap_or(&[])
-        {
-            push_said(&program.parts, &clause.says, &mut terms)?;
-        }
-    }
-    let mut growth = 0;
-    for number in &terms {
-        growth = level_at(&levels, *number).saturating_sub(1).max(growth);
-    }
-    Ok(growth)
-}
-
-// How often an elaboration goes on from a predicate at most.
-fn steps_of(kind: &QuestionKind) -> usize {
-    match kind {
-        QuestionKind::Elaborate { limit, pulls, .. } => {
-            limit.unwrap_or(LIMIT).min(pulls.unwrap_or(usize::MAX))
-        }
-        QuestionKind::Supertraits { limit, .. } => limit.unwrap_or(LIMIT),
-        _ => 0,
-    }
 }
 
 // Whether a number is marked in a list.
@@ -168,7 +96,9 @@ fn relates(program: &Program) -> bool {
     for question in &program.questions {
         if matches!(
             &question.kind,
-            QuestionKind::Relate { .. } | QuestionKind::RelateArgs { .. }
+            QuestionKind::Relate { .. }
+                | QuestionKind::RelateArgs { .. }
+                | QuestionKind::Overlap { .. }
         ) {
             return true;
         }
@@ -176,17 +106,31 @@ fn relates(program: &Program) -> bool {
     false
 }
 
+// Adds the numbers of the arguments of an impl's header.
+fn push_header(program: &Program, number: usize, found: &mut Vec<usize>) -> Result<(), AllocError> {
+    if let Some(clause) = program.clauses.get(number) {
+        if let Says::Claims(_, _, args) = clause.says {
+            push_range(&program.parts, args, found)?;
+        }
+    }
+    Ok(())
+}
+
 // The numbers of the terms that are related.
 fn push_related(
-    numbers: &[usize],
+    program: &Program,
     kind: &QuestionKind,
     found: &mut Vec<usize>,
 ) -> Result<(), AllocError> {
     match kind {
         QuestionKind::Relate { lhs, rhs, .. } => found.extend_from_slice(&[*lhs, *rhs])?,
         QuestionKind::RelateArgs { lhs, rhs } => {
-            push_range(numbers, *lhs, found)?;
-            push_range(numbers, *rhs, found)?;
+            push_range(&program.parts, *lhs, found)?;
+            push_range(&program.parts, *rhs, found)?;
+        }
+        QuestionKind::Overlap { left, right } => {
+            push_header(program, *left, found)?;
+            push_header(program, *right, found)?;
         }
         _ => {}
     }
@@ -247,25 +191,104 @@ fn count_to(largest: Option<usize>) -> usize {
     }
 }
 
-// Up to which numbers variables are named in terms, by what these need.
-fn named_in(needs: &[Needs], roots: &[usize]) -> Counts {
-    let mut named = NONE;
-    for root in roots {
-        let need = need_at(needs, *root);
-        named.types = named.types.max(count_to(need.types));
-        named.consts = named.consts.max(count_to(need.consts));
+impl Counts {
+    // At least so many.
+    fn with(self, types: usize, consts: usize) -> Counts {
+        Counts {
+            types: self.types.max(types),
+            consts: self.consts.max(consts),
+        }
     }
-    named
+
+    // And a variable that a question asks about itself.
+    fn with_variable(self, variable: VariableId) -> Counts {
+        match variable.kind {
+            VariableKind::Ty => self.with(variable.number.saturating_add(1), 0),
+            VariableKind::Const => self.with(0, variable.number.saturating_add(1)),
+            _ => self,
+        }
+    }
 }
 
-// Up to which numbers variables are said to be in a question's context.
-fn said_for(program: &Program, question: &Question) -> Counts {
-    let mut said = NONE;
-    for variables in program.variables.get(..question.variables).unwrap_or(&[]) {
-        said.types = said.types.max(variables.types);
-        said.consts = said.consts.max(variables.consts);
+// How many variables a question's context has at least before terms are related: those that are said to be in it, and
+// those that the question names, in terms that are related or by itself.
+fn named_by(program: &Program, needs: &[Needs], question: &Question, roots: &[usize]) -> Counts {
+    let mut named = NONE;
+    for said in program.variables.get(..question.variables).unwrap_or(&[]) {
+        named = named.with(said.types, said.consts);
     }
-    said
+    for root in roots {
+        let need = need_at(needs, *root);
+        named = named.with(count_to(need.types), count_to(need.consts));
+    }
+    match question.kind {
+        QuestionKind::One(first, second) => named.with_variable(first).with_variable(second),
+        QuestionKind::Binding(variable) => named.with_variable(variable),
+        _ => named,
+    }
+}
+
+// Numbers from the first on, those before `behind`.
+#[derive(Clone, Copy)]
+struct Range {
+    first: usize,
+    behind: usize,
+}
+
+// The variables of a kind that a context has.
+#[derive(Drop)]
+struct Variables {
+    // Those that were made while terms were related.
+    fresh: Vec<Range>,
+    // How many there were before the last question related terms.
+    before: usize,
+}
+
+impl Variables {
+    // Of a new context.
+    fn new(alloc: Global) -> Variables {
+        Variables {
+            fresh: Vec::new(alloc),
+            before: 0,
+        }
+    }
+
+    // Whether that variable was made while terms were related.
+    fn is_fresh(&self, number: usize) -> bool {
+        for range in &self.fresh {
+            if range.first <= number && number < range.behind {
+                return true;
+            }
+        }
+        false
+    }
+
+    // The context is a new one.
+    fn clear(&mut self) {
+        self.fresh.clear();
+        self.before = 0;
+    }
+
+    // The question before has left so many.
+    fn go_on(&mut self, made: usize) -> Result<(), AllocError> {
+        if self.before < made {
+            self.fresh.push(Range {
+                first: self.before,
+                behind: made,
+            })?;
+        }
+        self.before = made;
+        Ok(())
+    }
+}
+
+// What there is among the terms that are found from some on.
+#[derive(Clone, Copy)]
+struct Found {
+    // How many have variables and parts.
+    open: usize,
+    // Whether one is a variable that was made while terms were related.
+    fresh: bool,
 }
 
 /// How deep the terms of the context may be that was left.
@@ -273,12 +296,11 @@ fn said_for(program: &Program, question: &Question) -> Counts {
 pub(super) struct Depths {
     alloc: Global,
     open: Vec<bool>,
-    growth: usize,
     search: Search,
     // How many terms a chain of bindings may lead through.
     chained: usize,
-    // The variables that the context had before any was made while terms were related.
-    said: Counts,
+    types: Variables,
+    consts: Variables,
 }
 
 impl Depths {
@@ -293,7 +315,6 @@ impl Depths {
         } else {
             Vec::new(alloc)
         };
-        let growth = growth_of(alloc, program)?;
         let mut marks = Vec::with_capacity(alloc, open.len())?;
         for _ in &open {
             marks.push(0)?;
@@ -301,22 +322,32 @@ impl Depths {
         Ok(Depths {
             alloc,
             open,
-            growth,
             search: Search {
                 marks,
                 search: 0,
                 left: 0,
             },
             chained: 0,
-            said: NONE,
+            types: Variables::new(alloc),
+            consts: Variables::new(alloc),
         })
     }
 
-    // How many terms with variables and parts there are among those that are found from some on. A part has a smaller
-    // number than what it is a part of.
-    fn count(&mut self, program: &Program, roots: &[usize]) -> Result<usize, AllocError> {
+    // Whether a term is a variable that was made while terms were related.
+    fn is_fresh(&self, term: &Term) -> bool {
+        match term {
+            Term::TyVar(number) => self.types.is_fresh(*number),
+            Term::ConstVar(number) => self.consts.is_fresh(*number),
+            _ => false,
+        }
+    }
+
+    // Goes through the terms with variables that are found from some on. A part has a smaller number than what it is a
+    // part of.
+    fn find(&mut self, program: &Program, roots: &[usize]) -> Result<Found, AllocError> {
         let mut parts = Vec::new(self.alloc);
-        let mut count = 0usize;
+        let mut open = 0usize;
+        let mut fresh = false;
         let mut top = 0;
         self.search.search = self.search.search.saturating_add(1);
         self.search.left = 0;
@@ -326,51 +357,65 @@ impl Depths {
         }
         for below in 0..program.terms.len() {
             if self.search.left == 0 || below > top {
-                return Ok(count);
+                return Ok(Found { open, fresh });
             }
             let number = top - below;
             if self.search.take(number) {
                 parts.clear();
                 if let Some(term) = program.terms.get(number) {
+                    fresh = fresh || self.is_fresh(term);
                     push_parts(&program.parts, term, &mut parts)?;
                 }
                 if !parts.is_empty() {
-                    count = count.saturating_add(1);
+                    open = open.saturating_add(1);
                 }
                 for part in &parts {
                     self.search.find(&self.open, *part);
                 }
             }
         }
-        Ok(count)
+        Ok(Found { open, fresh })
     }
 
-    // How many terms a chain may lead through once a question was asked. What was instantiated is a copy: where a
-    // variable is named that was made with one, the copy and what it is a copy of may stand in one chain.
-    fn chained(
+    // Takes up a question, and answers whether it may be asked. What was instantiated is a copy: where a variable is
+    // named that was made with one, the copy and what it is a copy of may stand in one chain. A variable that is made
+    // since a question names it stands in none.
+    fn take_up(
         &mut self,
         program: &Program,
         needs: &[Needs],
         question: &Question,
-        roots: &[usize],
         made: Counts,
-    ) -> Result<usize, AllocError> {
-        let more = self.count(program, roots)?;
-        let named = named_in(needs, roots);
+    ) -> Result<bool, AllocError> {
         if !question.then {
-            let said = said_for(program, question);
-            self.said.types = said.types.max(named.types);
-            self.said.consts = said.consts.max(named.consts);
-            return Ok(more);
+            self.chained = 0;
+            self.types.clear();
+            self.consts.clear();
         }
-        let names_made = (self.said.types < named.types && self.said.types < made.types)
-            || (self.said.consts < named.consts && self.said.consts < made.consts);
-        let before = if names_made {
+        self.types.go_on(made.types)?;
+        self.consts.go_on(made.consts)?;
+        let mut roots = Vec::new(self.alloc);
+        push_related(program, &question.kind, &mut roots)?;
+        let found = self.find(program, &roots)?;
+        let before = if found.fresh {
             self.chained.saturating_mul(2)
         } else {
             self.chained
         };
-        Ok(before.saturating_add(more))
+        let chained = before.saturating_add(found.open);
+        if chained > MOST {
+            return Ok(false);
+        }
+        self.chained = chained;
+        if question.repeat > 1 {
+            // It is asked at last in a new context.
+            self.types.clear();
+            self.consts.clear();
+        }
+        let named = named_by(program, needs, question, &roots);
+        self.types.before = self.types.before.max(named.types);
+        self.consts.before = self.consts.before.max(named.consts);
+        Ok(true)
     }
 
     /// Why a question is not asked, if what it comes to may be too deep. What its terms need is given, and how many
@@ -382,23 +427,10 @@ impl Depths {
         question: &Question,
         made: Counts,
     ) -> Option<Unasked> {
-        if steps_of(&question.kind).saturating_mul(self.growth) > MOST {
-            return Some(Unasked::NotAsked(NotAsked::Depth));
+        match self.take_up(program, needs, question, made) {
+            Ok(true) => None,
+            Ok(false) => Some(Unasked::NotAsked(NotAsked::Depth)),
+            Err(_) => Some(Unasked::Memory),
         }
-        let mut roots = Vec::new(self.alloc);
-        let Ok(()) = push_related(&program.parts, &question.kind, &mut roots) else {
-            return Some(Unasked::Memory);
-        };
-        let Ok(chained) = self.chained(program, needs, question, &roots, made) else {
-            return Some(Unasked::Memory);
-        };
-        if chained > MOST {
-            if !question.then {
-                self.chained = 0;
-            }
-            return Some(Unasked::NotAsked(NotAsked::Depth));
-        }
-        self.chained = chained;
-        None
     }
 }

@@ -12,11 +12,13 @@ use crate::question::{Ready, Unasked};
 use relation_reference::context::RefCtxt;
 use relation_terms::predicate::TraitRef;
 use relation_terms::terms::{Binder, Clause, Interner};
+use std::fmt::{self, Write};
 use text_clauses::building::{build_bound, build_clauses};
 use text_elaboration::pulls::{
-    LIMIT, Manner, PulledOf, elaborated, supertrait_ids_of, supertraits_of,
+    LIMIT, Manner, Pulled, PulledOf, elaborated, supertrait_ids_of, supertraits_of, write_pulls,
 };
 use text_reading::naming::Parts;
+use text_terms::printing::TextsOf;
 
 // How many predicates are told at most. Each is written with three bytes or more: so many are more than an answer has.
 const MOST: usize = 349_526;
@@ -30,7 +32,11 @@ pub(super) fn told(count: Option<usize>) -> Option<usize> {
 }
 
 // The clauses of a range of a program's predicates. There are none where a growth was refused.
-fn clauses_of<I: Interner>(cx: &mut I, terms: &Ready<I>, range: Parts) -> Option<Vec<Clause<I>>>
+pub(super) fn clauses_of<I: Interner>(
+    cx: &mut I,
+    terms: &Ready<I>,
+    range: Parts,
+) -> Option<Vec<Clause<I>>>
     requires { AllReady (I.meaning cx.old) terms.now }
     ensures grown { Extends (I.meaning cx.old) (I.meaning cx.new) }
     ensures sure { IfSome result (λ ks. All (λ k. IsTrue (known ((I.meaning cx.new).clause k))) ks.items) }
@@ -70,7 +76,7 @@ pub(super) fn ask_elaborated<I: Interner>(
 }
 
 // The trait reference that a predicate of a program claims. There is none where a growth was refused.
-fn bound_of<I: Interner>(
+pub(super) fn bound_of<I: Interner>(
     cx: &mut I,
     terms: &Ready<I>,
     number: usize,
@@ -121,4 +127,26 @@ pub(super) fn ask_supertrait_ids<I: Interner>(
         Ok(all) => Ok(all),
         Err(_) => Err(Unasked::Memory),
     }
+}
+
+// Writes what pulls answered whose limit is lowered: where it is met, what follows may be too deep for the stack.
+pub(super) fn write_lowered<I: Interner, W: Write>(
+    cx: &I,
+    texts: &TextsOf<I>,
+    pulls: &[PulledOf<I>],
+    out: &mut W,
+) -> fmt::Result
+    requires { All (KnowsPulled (I.meaning cx.now)) pulls.now }
+{
+    for place in 0..pulls.len() {
+        if place > 0 {
+            out.write_str(" | ")?;
+        }
+        if matches!(pulls[place], Pulled::Limit) {
+            out.write_str("too deep")?;
+        } else {
+            write_pulls(cx, texts, &pulls[place..place + 1], out)?;
+        }
+    }
+    Ok(())
 }

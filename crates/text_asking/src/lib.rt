@@ -4,12 +4,15 @@
 ghost use Rattle.text_asking.specs.Asking.{AllReady};
 
 mod answer_text;
+mod coherence;
 mod comparing;
 mod context;
 mod counts;
 mod depth;
 mod elaborating;
+mod environment;
 mod folding;
+mod growth;
 mod interner;
 mod lists;
 mod outliving;
@@ -24,6 +27,7 @@ mod writing;
 
 use answer_text::AnswerText;
 use depth::{Counts, Depths};
+use growth::Growths;
 use interner::{Tables, make_interner, make_tables};
 use question::{Ready, ask_unless, context_for};
 use relation_reference::context::RefCtxt;
@@ -75,6 +79,9 @@ fn ask_ready<I: SizedKeys + Drop, W: Write>(
     let Ok(begun) = Depths::new(alloc, program) else {
         return refuse_all(program, between, out);
     };
+    let Ok(growths) = Growths::new(alloc, program) else {
+        return refuse_all(program, between, out);
+    };
     let mut depths = begun;
     let mut text = room;
     let mut ctx = made;
@@ -87,9 +94,10 @@ fn ask_ready<I: SizedKeys + Drop, W: Write>(
             consts: asked.inner.consts.len(),
         };
         let why_not = depths.refusal(program, terms.needs, question, counts);
-        let (left, outcome) = ask_unless(asked, terms, question, why_not);
+        let bounded = growths.bounded(program, question);
+        let (left, outcome) = ask_unless(asked, terms, &bounded.question, why_not);
         ctx = left;
-        write_whole(&ctx, texts, question, &outcome, &mut text, out)?;
+        write_whole(&ctx, texts, &bounded, &outcome, &mut text, out)?;
         any = true;
     }
     Ok(())
@@ -153,6 +161,7 @@ pub fn ask_over<I: SizedKeys + Drop, W: Write>(
         puts: &program.puts,
         skips: &program.skips,
         clauses: &program.clauses,
+        methods: &program.methods,
         ids,
         names,
         no_ids,

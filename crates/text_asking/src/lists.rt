@@ -6,6 +6,7 @@ ghost use Rattle.variable_tables.specs.Tables.{IsLawful};
 ghost use Rattle.text_asking.specs.Asking.{AllReady, IsReady, KnowsRelated};
 
 use crate::context::{NotAsked, have_variables, refusal, relate};
+use crate::environment::environment_of;
 use crate::question::{Ready, Unasked};
 use relation_reference::context::RefCtxt;
 use relation_terms::terms::parts::member_count;
@@ -49,13 +50,16 @@ fn are_as_many<I: Interner>(cx: &I, lhs: &GenericArgs<I>, rhs: &GenericArgs<I>) 
     left == right
 }
 
-// Relates two lists of arguments, of which it is said what they need, if they may be asked about.
+// Relates two lists of arguments where that is assumed. It is said what the lists need, if they may be asked about.
 fn relate_ready<I: Interner>(
     ctx: &mut RefCtxt<I>,
+    terms: &Ready<I>,
+    assumed: Parts,
     lhs: (GenericArgs<I>, Needs),
     rhs: (GenericArgs<I>, Needs),
 ) -> Result<RelateGoals<I>, Unasked>
     requires lawful { IsLawful (I.meaning ctx.old.interner) ctx.old.inner }
+    requires ready { AllReady (I.meaning ctx.old.interner) terms.now }
     requires lhs_ready { IsReady lhs.1 ((I.meaning ctx.old.interner).args lhs.0) }
     requires rhs_ready { IsReady rhs.1 ((I.meaning ctx.old.interner).args rhs.0) }
     ensures lawful { IsLawful (I.meaning ctx.new.interner) ctx.new.inner }
@@ -74,17 +78,16 @@ fn relate_ready<I: Interner>(
     let Ok(()) = have_variables(ctx, both(lhs_needs, rhs_needs)) else {
         return Err(Unasked::Memory);
     };
-    let Ok(param_env) = ctx.interner.empty_param_env() else {
-        return Err(Unasked::Memory);
-    };
+    let param_env = environment_of(&mut ctx.interner, terms, assumed)?;
     let span = ctx.interner.dummy_span();
     Ok(relate(ctx, param_env, lhs, relation, rhs, span))
 }
 
-// Relates two lists of arguments in a context.
+// Relates two lists of arguments in a context where that is assumed.
 pub(super) fn ask_args_related<I: Interner>(
     ctx: &mut RefCtxt<I>,
     terms: &Ready<I>,
+    assumed: Parts,
     lhs: Parts,
     rhs: Parts,
 ) -> Result<RelateGoals<I>, Unasked>
@@ -96,5 +99,5 @@ pub(super) fn ask_args_related<I: Interner>(
 {
     let lhs = args_of(ctx, terms, lhs)?;
     let rhs = args_of(ctx, terms, rhs)?;
-    relate_ready(ctx, lhs, rhs)
+    relate_ready(ctx, terms, assumed, lhs, rhs)
 }

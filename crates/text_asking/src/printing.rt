@@ -14,6 +14,7 @@ ghost use Rattle.variable_tables.specs.declared.inner.VariableValue.TheVariants.
 ghost use Rattle.relation_reference.specs.RefCtxt.{store_in};
 ghost use Rattle.text_asking.specs.Asking.{AreBoundKnown, KnowsRelated};
 
+use crate::environment::write_environment;
 use relation_folds::error::{ExpectedFound, RelateFault, TypeError, TypeErrorOf};
 use relation_reference::context::{RefCtxt, VariableTable, VariableValue};
 use relation_terms::predicate::{ClauseKind, PredicateKind, RegionConstraint};
@@ -222,7 +223,7 @@ fn write_constraint<I: Interner, W: Write>(
 }
 
 // Writes the constraints that a context has recorded, if any.
-fn write_constraints<I: Interner, W: Write>(
+pub(crate) fn write_constraints<I: Interner, W: Write>(
     ctx: &RefCtxt<I>,
     texts: &TextsOf<I>,
     out: &mut W,
@@ -322,7 +323,7 @@ fn write_goal_terms<I: Interner, W: Write>(
     }
 }
 
-// Writes a goal: the name of what it asks, and of its parts those that have a text.
+// Writes a goal: the name of what it asks, of its parts those that have a text, and what it assumes, if anything.
 fn write_goal<I: Interner, W: Write>(
     cx: &I,
     texts: &TextsOf<I>,
@@ -333,11 +334,12 @@ fn write_goal<I: Interner, W: Write>(
 {
     let predicate = cx.predicate_kind(&goal.predicate).value;
     out.write_str(predicate_name(&predicate))?;
-    write_goal_terms(cx, texts, &predicate, out)
+    write_goal_terms(cx, texts, &predicate, out)?;
+    write_environment(cx, texts, &goal.param_env, out)
 }
 
 // Writes the goals that a relation leaves, if any, in the order in which they were registered.
-fn write_goals<I: Interner, W: Write>(
+pub(crate) fn write_goals<I: Interner, W: Write>(
     cx: &I,
     texts: &TextsOf<I>,
     goals: &[GoalOf<I>],
@@ -433,7 +435,7 @@ fn write_bound<I: Interner, W: Write>(
 }
 
 // Writes that a context has met an error, if it has.
-fn write_tainted<I: Interner, W: Write>(ctx: &RefCtxt<I>, out: &mut W) -> fmt::Result {
+pub(crate) fn write_tainted<I: Interner, W: Write>(ctx: &RefCtxt<I>, out: &mut W) -> fmt::Result {
     if ctx.tainted() {
         return out.write_str("; tainted");
     }

@@ -8,8 +8,10 @@ ghost use Rattle.text_asking.specs.Meets.{AllKnown};
 ghost use Rattle.text_asking.specs.Asking.{AllReady, IsReady, IsSetUp, KnowsAnswer, KnowsRelated};
 
 use crate::BUDGET;
+use crate::coherence::{ask_impls_overlap, ask_methods};
 use crate::context::{NotAsked, have_all_stated, have_variables, refusal, relate, renewed};
 use crate::elaborating::{ask_elaborated, ask_supertrait_ids, ask_supertraits, told};
+use crate::environment::environment_of;
 use crate::folding::{fold, puts_at};
 use crate::lists::ask_args_related;
 use crate::outliving::{ask_assumptions, ask_components};
@@ -18,15 +20,18 @@ use crate::roots::{ask_binding, ask_one};
 use crate::sized_keys::SizedKeys;
 use crate::visiting::{Met, visit};
 use crate::walking::numbers_at;
+use relation_coherence::overlap::Overlap;
+use relation_folds::error::RelateFault;
 use relation_folds::visit::{has_escaping_bound_vars, has_non_region_infer, is_known_rigid};
 use relation_reference::context::RefCtxt;
 use relation_terms::predicate::OutlivesPredicate;
-use relation_terms::terms::{GenericArg, GenericArgKind, Interner, Keys, LocalDefIds, Ty};
+use relation_terms::terms::{GenericArg, GenericArgKind, Interner, Keys, LocalDefIds, TraitId, Ty};
 use relation_tools::outlives::Component;
 use std::alloc::Global;
+use text_coherence::overlapping::WhyNot;
 use text_elaboration::pulls::{Manner, Pulled};
 use text_needs::needs::{Needs, both, need_at};
-use text_reading::naming::{Clause, Parts, Put, Question, QuestionKind, Variables};
+use text_reading::naming::{Clause, Method, Parts, Put, Question, QuestionKind, Variables};
 use text_reading::reading::Relation;
 use text_terms::building::{key_at, keys_at, ty_at};
 use type_relations::relate::solver_relating::RelateGoals;
@@ -43,6 +48,8 @@ pub(super) struct Ready<'a, I: Interner> {
     pub skips: &'a [usize],
     // The predicates of questions, and the ids and names that they are made of.
     pub clauses: &'a [Clause],
+    // The methods of tables.
+    pub methods: &'a [Method],
     pub ids: &'a [I::Id],
     pub names: &'a [I::Name],
     // The list without ids, which typing modes name.
@@ -57,6 +64,8 @@ pub(super) enum Unasked {
     // A growth was refused before the terms could be related.
     Memory,
     NotAsked(NotAsked),
+    // Why two impls are not asked about.
+    Impls(WhyNot),
 }
 
 // What is answered to a question.
@@ -72,6 +81,9 @@ pub(super) enum Answer<R, K, X, D, N> {
     Key(K),
     Pulls(Vec<Pulled<X, D>>),
     Binding(Option<GenericArgKind<X>>),
+    // Of two impls of a trait.
+    Overlap(TraitId<D>, Result<Overlap<X, D, N>, RelateFault<X, D, N>>),
+    Methods(Vec<N>),
 }
 
 // What is answered to a question over an interner.
@@ -118,10 +130,11 @@ pub(super) fn type_of<I: Interner>(terms: &Ready<I>, number: usize) -> Option<(T
     Some((ty, need_at(terms.needs, number)))
 }
 
-// Asks in a context whether two types are related.
+// Asks in a context whether two types are related where that is assumed.
 fn ask_related<I: Interner>(
     ctx: &mut RefCtxt<I>,
     terms: &Ready<I>,
+    assumed: Parts,
     lhs: usize,
     relation: Relation,
     rhs: usize,
@@ -144,9 +157,7 @@ fn ask_related<I: Interner>(
     let Ok(()) = have_variables(ctx, both(lhs_needs, rhs_needs)) else {
         return Err(Unasked::Memory);
     };
-    let Ok(param_env) = ctx.interner.empty_param_env() else {
-        return Err(Unasked::Memory);
-    };
+    let param_env = environment_of(&mut ctx.interner, terms, assumed)?;
     let span = ctx.interner.dummy_span();
     Ok(relate(ctx, param_env, lhs, relation, rhs, span))
 }
@@ -287,7 +298,7 @@ fn ask<I: SizedKeys>(ctx: &mut RefCtxt<I>, terms: &Ready<I>, question: &Question
 {
     match question.kind {
         QuestionKind::Relate { lhs, relation, rhs } => {
-            let related = ask_related(ctx, terms, lhs, relation, rhs)?;
+            let related = ask_related(ctx, terms, question.assumed, lhs, relation, rhs)?;
             Ok(Answer::Related(related))
         }
         QuestionKind::Visit { term, skip, stop } => {
@@ -339,7 +350,7 @@ fn ask<I: SizedKeys>(ctx: &mut RefCtxt<I>, terms: &Ready<I>, question: &Question
             Ok(Answer::Is(may))
         }
         QuestionKind::RelateArgs { lhs, rhs } => {
-            let related = ask_args_related(ctx, terms, lhs, rhs)?;
+            let related = ask_args_related(ctx, terms, question.assumed, lhs, rhs)?;
             Ok(Answer::Related(related))
         }
         QuestionKind::Key { params, ty } => {
@@ -370,6 +381,15 @@ fn ask<I: SizedKeys>(ctx: &mut RefCtxt<I>, terms: &Ready<I>, question: &Question
             let all = ask_supertrait_ids(&ctx.interner, terms, item)?;
             Ok(Answer::Pulls(all))
         }
+        QuestionKind::Overlap { left, right } => {
+            let told = ask_impls_overlap(ctx, terms, question.assumed, left, right)?;
+            Ok(Answer::Overlap(told.0, told.1))
+        }
+        QuestionKind::Methods { methods, of } => {
+            let names = ask_methods(ctx, terms, methods, of)?;
+            Ok(Answer::Methods(names))
+        }
+        QuestionKind::Solve { .. } => Err(Unasked::Memory),
         QuestionKind::One(first, second) => {
             let one = ask_one(ctx, first, second)?;
             Ok(Answer::Is(one))

@@ -6,8 +6,11 @@ ghost use Rattle.variable_tables.specs.Tables.{IsLawful};
 ghost use Rattle.text_asking.specs.Asking.{KnowsAnswer, KnowsRelated};
 
 use crate::answer_text::{AnswerText, CUT_OFF};
+use crate::coherence::{write_methods, write_overlap};
 use crate::context::write_not_asked;
 use crate::counts::write_counted;
+use crate::elaborating::write_lowered;
+use crate::growth::Bounded;
 use crate::outliving::{write_assumptions, write_components};
 use crate::printing::write_answer;
 use crate::question::{Answer, AnswerOf, Outcome, Unasked};
@@ -18,32 +21,41 @@ use relation_reference::context::RefCtxt;
 use relation_semantics::infer_ctxt::InferCtxtLike;
 use relation_terms::terms::{GenericArg, Interner};
 use std::fmt::{self, Write};
+use text_coherence::overlapping::write_why_not;
 use text_elaboration::pulls::write_pulls;
-use text_reading::naming::Question;
 use text_terms::printing::{TextsOf, write_arg};
 use type_relations::relate::solver_relating::RelateGoals;
+
+// Writes how many instantiations are left, where it was said how many a context may make.
+fn write_left<I: Interner, W: Write>(
+    ctx: &RefCtxt<I>,
+    asked: &Bounded,
+    out: &mut W,
+) -> fmt::Result {
+    if asked.question.budget.is_some() {
+        let left = ctx.budget_left();
+        write!(out, "; left={left}")?;
+    }
+    Ok(())
+}
 
 // Writes what a relation answered, or how much it leaves where that is counted, and how many instantiations are left
 // where it was said how many a relation may make.
 fn write_related<I: Interner, W: Write>(
     ctx: &RefCtxt<I>,
     texts: &TextsOf<I>,
-    question: &Question,
+    asked: &Bounded,
     related: &RelateGoals<I>,
     out: &mut W,
 ) -> fmt::Result
     requires lawful { IsLawful (I.meaning ctx.now.interner) ctx.now.inner }
     requires known { KnowsRelated (I.meaning ctx.now.interner) related.now }
 {
-    match (question.counts, related) {
+    match (asked.question.counts, related) {
         (Some(counted), Ok(goals)) => write_counted(ctx, counted, goals, out)?,
         _ => write_answer(ctx, texts, related, out)?,
     }
-    if question.budget.is_some() {
-        let left = ctx.budget_left();
-        write!(out, "; left={left}")?;
-    }
-    Ok(())
+    write_left(ctx, asked, out)
 }
 
 // Writes what a variable is bound to, or that it is to nothing.
@@ -65,7 +77,7 @@ fn write_binding<I: Interner, W: Write>(
 fn write_given<I: Interner, W: Write>(
     ctx: &RefCtxt<I>,
     texts: &TextsOf<I>,
-    question: &Question,
+    asked: &Bounded,
     answer: &AnswerOf<I>,
     out: &mut W,
 ) -> fmt::Result
@@ -74,7 +86,7 @@ fn write_given<I: Interner, W: Write>(
         KnowsAnswer m (KnowsRelated m) answer.now }
 {
     match answer {
-        Answer::Related(related) => write_related(ctx, texts, question, related, out),
+        Answer::Related(related) => write_related(ctx, texts, asked, related, out),
         Answer::Met(met) => write_met(&ctx.interner, texts, met, out),
         Answer::Walked(yielded) => write_walked(&ctx.interner, texts, yielded, out),
         Answer::Components(found) => write_components(&ctx.interner, texts, found, out),
@@ -82,8 +94,14 @@ fn write_given<I: Interner, W: Write>(
         Answer::Folded(term) => write_arg(&ctx.interner, texts, term, out),
         Answer::Is(holds) => write!(out, "{holds}"),
         Answer::Key(key) => write_key::<I, W>(texts, key, out),
+        Answer::Pulls(all) if asked.lowered => write_lowered(&ctx.interner, texts, all, out),
         Answer::Pulls(all) => write_pulls(&ctx.interner, texts, all, out),
         Answer::Binding(bound) => write_binding(&ctx.interner, texts, bound, out),
+        Answer::Overlap(of, told) => {
+            write_overlap(ctx, texts, *of, told, out)?;
+            write_left(ctx, asked, out)
+        }
+        Answer::Methods(names) => write_methods::<I, W>(texts, names, out),
     }
 }
 
@@ -91,7 +109,7 @@ fn write_given<I: Interner, W: Write>(
 fn write_outcome<I: Interner, W: Write>(
     ctx: &RefCtxt<I>,
     texts: &TextsOf<I>,
-    question: &Question,
+    asked: &Bounded,
     outcome: &Outcome<I>,
     out: &mut W,
 ) -> fmt::Result
@@ -102,7 +120,8 @@ fn write_outcome<I: Interner, W: Write>(
     match outcome {
         Err(Unasked::Memory) => out.write_str("memory"),
         Err(Unasked::NotAsked(why)) => write_not_asked(*why, out),
-        Ok(answer) => write_given(ctx, texts, question, answer, out),
+        Err(Unasked::Impls(why)) => write_why_not(*why, out),
+        Ok(answer) => write_given(ctx, texts, asked, answer, out),
     }
 }
 
@@ -111,7 +130,7 @@ fn write_outcome<I: Interner, W: Write>(
 pub(super) fn write_whole<I: Interner, W: Write>(
     ctx: &RefCtxt<I>,
     texts: &TextsOf<I>,
-    question: &Question,
+    asked: &Bounded,
     outcome: &Outcome<I>,
     text: &mut AnswerText,
     out: &mut W,
@@ -121,7 +140,7 @@ pub(super) fn write_whole<I: Interner, W: Write>(
         IfOk outcome.now (KnowsAnswer m (KnowsRelated m)) }
 {
     text.clear();
-    match write_outcome(ctx, texts, question, outcome, text) {
+    match write_outcome(ctx, texts, asked, outcome, text) {
         Ok(()) => out.write_str(text.text.as_str()),
         Err(_) if text.cut => {
             out.write_str(text.text.as_str())?;

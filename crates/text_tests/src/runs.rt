@@ -6,15 +6,13 @@ use std::io;
 use std::test::Fail;
 
 // The words of a run, its status, and what it writes.
-const RUNS: [(&[&str], u8, &str, &str); 4] = [
+const RUNS: [(&[&str], u8, &str, &str); 2] = [
     (
         &["r07"],
         0,
         "r07: err TupleSize(2, 3) | err Sorts((), (u8,))\n",
         "",
     ),
-    (&["r00"], 2, "", "unknown row: r00\n"),
-    (&[""], 2, "", "unknown row: \n"),
     (&["r07", "r08"], 2, "", "usage: relations [name]\n"),
 ];
 
@@ -36,6 +34,40 @@ fn runs_print_their_rows(rt: HostRuntime) -> Result<(), Fail> {
         let written = (out.as_slice(), err.as_slice());
         assert_eq!(rt; answered, *status);
         assert!(rt; written == (printed.as_bytes(), complaint.as_bytes()));
+    }
+    Ok(())
+}
+
+// Which rows there are.
+const ROWS: &str =
+    "rows: r01 r02 r03 r04 r05 r06 r07 r08 r09 r10 r11 r12 r13 r14 r15 r16 r17 r18 r19 r20 \
+    r21 r22 r23 r24 r25 r26 r27 r28 r29 r30 r31 r32 r33 r34 r35 r36 r37 r38 r39 r40 \
+    r41 r42 r43 r44 r45 r46 r47 r48 r49 r50 r51 r52 r53 r54 r55 r56 r57 r58 r59 r60 \
+    r61 r62 r63 r64 r65 r66 r67 r68 r69 r70 r71\n";
+
+// Where a word names no row it is told which there are, and so it is where it asks how the program is used.
+#[test]
+fn rows_are_named(rt: HostRuntime) -> Result<(), Fail> {
+    for (word, status, told) in [
+        ("r00", 2, "unknown row: r00\n"),
+        ("", 2, "unknown row: \n"),
+        (
+            "--help",
+            0,
+            "usage: relations [name]\nPrints the answers of the row of that name, or of all rows.\n",
+        ),
+    ] {
+        let words = texts(rt.alloc(), &[word])?;
+        let mut out = Vec::new(rt.alloc());
+        let mut err = Vec::new(rt.alloc());
+        assert_eq!(rt;
+            run(rt.alloc(), words.as_slice(), &mut out, &mut err),
+            status
+        );
+        assert!(rt; out.is_empty() != err.is_empty());
+        out.extend_from_slice(&err)?;
+        let all = format!(in rt.alloc(); "{told}{ROWS}")?;
+        assert!(rt; out.as_slice() == all.as_bytes());
     }
     Ok(())
 }

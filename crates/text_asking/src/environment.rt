@@ -1,0 +1,54 @@
+//! The environment in which a question is asked.
+ghost use Rattle.std.specs.Prelude.{IsTrue, IfOk};
+ghost use Rattle.relation_terms.specs.Trees.{known};
+ghost use Rattle.relation_terms.specs.Meaning.{Extends};
+ghost use Rattle.text_asking.specs.Asking.{AllReady};
+
+use crate::elaborating::clauses_of;
+use crate::question::{Ready, Unasked};
+use relation_terms::terms::{Interner, ParamEnv};
+use std::fmt::{self, Write};
+use text_clauses::printing::write_clause;
+use text_reading::naming::Parts;
+use text_terms::printing::TextsOf;
+
+// The environment of a range of a program's predicates.
+pub(super) fn environment_of<I: Interner>(
+    cx: &mut I,
+    terms: &Ready<I>,
+    assumed: Parts,
+) -> Result<ParamEnv<I>, Unasked>
+    requires { AllReady (I.meaning cx.old) terms.now }
+    ensures grown { Extends (I.meaning cx.old) (I.meaning cx.new) }
+    ensures sure { IfOk result (λ k. IsTrue (known ((I.meaning cx.new).param_env k))) }
+{
+    let Some(clauses) = clauses_of(cx, terms, assumed) else {
+        return Err(Unasked::Memory);
+    };
+    let Ok(list) = cx.mk_clauses(&clauses) else {
+        return Err(Unasked::Memory);
+    };
+    match cx.mk_param_env(list) {
+        Ok(param_env) => Ok(param_env),
+        Err(_) => Err(Unasked::Memory),
+    }
+}
+
+// Writes what an environment has, if anything.
+pub(super) fn write_environment<I: Interner, W: Write>(
+    cx: &I,
+    texts: &TextsOf<I>,
+    param_env: &ParamEnv<I>,
+    out: &mut W,
+) -> fmt::Result
+    requires { IsTrue (known ((I.meaning cx.now).param_env param_env.now)) }
+{
+    let bounds = cx.caller_bounds(param_env);
+    let mut any = false;
+    for clause in cx.clauses(&bounds) {
+        out.write_str(if any { ", " } else { " assuming [" })?;
+        write_clause(cx, texts, clause, out)?;
+        any = true;
+    }
+    if any { out.write_str("]") } else { Ok(()) }
+}
