@@ -108,12 +108,13 @@ pub ready_in : {Key Id Name : Type 0} (m : Meaning Key Id Name) (x : InferCtxtIn
 ready_in m x n h t k r = allowed_in (store_of m x) n
     (λ v i o. subst (λ l. i < l) (sym (entries_count m x v)) (h.variables v i o)) h.universe t r.0 r.1.0 (r.1.1 k).stays
 
--- What a relation answered is known where its goals are, or why it stopped.
+-- What relating answered is known.
 pub related_known : {Key Id Name : Type 0} (m : Meaning Key Id Name)
-    (r : Result (Vec (Goal Key (PredicateKey Key))) (RelateFault Key Id Name)) →
-    IfOk r (λ goals. All (KnowsGoal m) goals.items) → IfErr r (KnowsFault m) → KnowsRelated m r
-related_known m (Ok goals) h k = h
-related_known m (Err e) h k = k
+    (result : Result (Vec (Goal Key (PredicateKey Key))) (RelateFault Key Id Name))
+    (P : Vec (Goal Key (PredicateKey Key)) → Type 0) → IfOk result (λ goals. All (KnowsGoal m) goals.items × P goals) →
+    IfErr result (KnowsFault m) → KnowsRelated m result
+related_known m (Ok goals) P h k = h.0
+related_known m (Err e) P h k = k
 
 -- Keys that were built, and what their terms need.
 pub all_ready : {Key Id Name : Type 0} (m : Meaning Key Id Name) (items names parts : List ℕ) (xs : List Term)

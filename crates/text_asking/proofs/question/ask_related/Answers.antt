@@ -4,7 +4,8 @@ use Rattle.relation_terms.proofs.Stays.{extends_on}
 use Rattle.variable_tables.proofs.Grows.{lawful_grows}
 use Rattle.text_needs.specs.Needs.{both_needs}
 use Rattle.text_asking.specs.Asking.{IsReady, Has}
-use Rattle.text_asking.proofs.AskingLemmas.{one_ready, asked_left, asked_right, has_left, has_right, ready_in, ready_stays}
+use Rattle.text_asking.proofs.AskingLemmas.{one_ready, asked_left, asked_right, has_left, has_right, ready_in}
+use Rattle.text_asking.proofs.AskingLemmas.{ready_stays, related_known}
 use Rattle.text_asking.proofs.question.ask_related.Goals as goal
 
 pub environment_of-requires : goal.environment_of-requires
@@ -49,3 +50,8 @@ relate-requires g c =
         rhs_in = ready_in n x b (has_right x a b has) (n.ty u) (asked_right _ _ _ _ may) rhs;
       };
     }
+
+pub returns-clause-known : goal.returns-clause-known
+returns-clause-known g c =
+    related_known (g.I.Interner.meaning c.relate.new.ctx.interner) c.relate.result _ c.relate.ensures.asks.goals
+    c.relate.ensures.fault.fault_known
