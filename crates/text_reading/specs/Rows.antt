@@ -9,6 +9,7 @@ use Rattle.text_reading.specs.declared.reading.shapes.Sort.TheVariants as sort
 use Rattle.text_reading.specs.declared.reading.rows.statements.TheConstants as statements
 use Rattle.text_reading.specs.declared.reading.rows.questions.TheConstants as questions
 use Rattle.text_reading.specs.declared.reading.rows.predicates.TheConstants as predicates
+use Rattle.text_reading.specs.declared.reading.rows.impls.TheConstants as impls
 use Rattle.text_reading.specs.declared.reading.rows.terms.TheConstants as terms
 use Rattle.text_reading.specs.Written.{IsOfRows}
 
@@ -35,6 +36,10 @@ rows_of sort.Made = rows_named statements.MADE
 rows_of sort.Limit = rows_named predicates.LIMIT
 rows_of sort.Pulls = rows_named predicates.PULLS
 rows_of sort.Predicate = rows_named predicates.PREDICATE
+rows_of sort.ImplHeader = rows_named impls.IMPL_HEADER
+rows_of sort.Generics = rows_named impls.GENERICS
+rows_of sort.GenericParam = rows_named impls.GENERIC_PARAM
+rows_of sort.Method = rows_named impls.METHOD
 rows_of sort.PredicateBinder = rows_named predicates.PREDICATE_BINDER
 rows_of sort.Binder = rows_named terms.BINDER
 rows_of sort.NoBinder = rows_named terms.NO_BINDER

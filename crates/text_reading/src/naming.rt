@@ -4,6 +4,7 @@ mod aliases;
 mod binders;
 mod elaborations;
 mod error;
+mod impls;
 mod namer;
 mod objects;
 mod outlives;
@@ -19,7 +20,7 @@ mod walks;
 
 pub use error::{Missing, NameError, Wrong, write_name_error};
 pub use program::{
-    Clause, Declared, Item, Mode, ParamSort, Parts, Program, Put, Question, QuestionKind, Says,
-    Setup, Sort, Stated, Term, VariableId, VariableKind, Variables,
+    Clause, Declared, Item, Method, Mode, ParamSort, Parts, Program, Put, Question, QuestionKind,
+    Says, Setup, Sort, Stated, Term, VariableId, VariableKind, Variables,
 };
 pub use statements::{LAST_UNIVERSE, MOST_VARIABLES, look_up};

@@ -3,6 +3,7 @@
 use crate::naming::error::{NameError, Wrong, error_at};
 use crate::naming::namer::{Made, Namer};
 use crate::naming::program::{Parts, Sort, Term};
+use crate::naming::terms::given_to;
 use crate::reading::{Form, Leaf, Node, NodeKind, Tree};
 use std::alloc::{AllocError, Global};
 
@@ -22,8 +23,26 @@ fn is_binder(node: &Node) -> bool {
                 | Form::OutlivesUnder
                 | Form::ComesTo
                 | Form::Says
+                | Form::ImplHeader
+                | Form::Method
         )
     )
+}
+
+// What a binder binds under a name: its place in the binder's list, and what it stands for.
+#[derive(Clone, Copy)]
+pub(super) struct Bound {
+    place: usize,
+    sort: Sort,
+}
+
+// What a word stands for that is bound, by how it is written.
+fn bound_sort(leaf: Leaf) -> Sort {
+    match leaf {
+        Leaf::Lifetime | Leaf::OuterRegion { .. } => Sort::Region,
+        Leaf::BoundConst | Leaf::OuterConst { .. } => Sort::Const,
+        _ => Sort::Type,
+    }
 }
 
 // For each node of a tree the binder that it stands in, if it stands in one: the nearest, by the node of what it binds.
@@ -52,16 +71,26 @@ pub(super) fn scopes_of(alloc: Global, tree: &Tree) -> Result<Vec<Option<usize>>
 }
 
 impl<'a> Namer<'a> {
+    // The name of what a binder binds, and what it stands for: a word alone, or what an impl is generic over.
+    fn bound_name(&self, whole: &Node, number: usize) -> Result<(Node, Sort), NameError> {
+        let node = self.node(whole, number)?;
+        if let NodeKind::Leaf(leaf) = node.kind {
+            return Ok((node, bound_sort(leaf)));
+        }
+        let (name, declared) = self.declared(whole, number)?;
+        Ok((name, given_to(declared.sort)))
+    }
+
     // From here on the names of a node's parts are bound by the binder that this node is of.
     pub fn declare_bound(&mut self, node: &Node, parts: &[usize]) -> Result<(), NameError> {
         let binder = self.made.len();
         for (place, number) in parts.iter().enumerate() {
-            let leaf = self.node(node, *number)?;
+            let (leaf, sort) = self.bound_name(node, *number)?;
             let name = self.text_of(&leaf)?;
             if name == STATIC || self.bound.contains_key(&(binder, name)) {
                 return Err(error_at(&leaf, Wrong::Again));
             }
-            let _ = self.bound.insert((binder, name), place)?;
+            let _ = self.bound.insert((binder, name), Bound { place, sort })?;
         }
         Ok(())
     }
@@ -71,13 +100,13 @@ impl<'a> Namer<'a> {
         self.scopes.get(number).copied().unwrap_or(None)
     }
 
-    // What binds the name of that node, the nearest binder first: how many binders stand between, and the place.
-    fn binder_of(&self, number: usize, name: &'a str) -> Option<(u64, usize)> {
+    // What is bound under the name of that node, by the nearest binder first, and how many binders stand between.
+    fn binder_of(&self, number: usize, name: &'a str) -> Option<(u64, Bound)> {
         let mut scope = self.scope_of(number);
         for depth in 0..self.scopes.len() {
             let binder = scope?;
-            if let Some(place) = self.bound.get(&(binder, name)) {
-                return Some((depth as u64, *place));
+            if let Some(bound) = self.bound.get(&(binder, name)) {
+                return Some((depth as u64, *bound));
             }
             scope = self.scope_of(binder);
         }
@@ -88,22 +117,18 @@ impl<'a> Namer<'a> {
     fn bound_at(
         &mut self,
         node: &Node,
-        leaf: Leaf,
+        bound: Bound,
         depth: u64,
-        place: usize,
         name: &'a str,
     ) -> Result<Made, NameError> {
         let name = self.name(name)?;
-        let (term, sort) = match leaf {
-            Leaf::Lifetime | Leaf::OuterRegion { .. } => {
-                (Term::RegionBound(depth, place, name), Sort::Region)
-            }
-            Leaf::BoundConst | Leaf::OuterConst { .. } => {
-                (Term::ConstBound(depth, place, name), Sort::Const)
-            }
-            _ => (Term::TyBound(depth, place, name), Sort::Type),
+        let place = bound.place;
+        let term = match bound.sort {
+            Sort::Region => Term::RegionBound(depth, place, name),
+            Sort::Const => Term::ConstBound(depth, place, name),
+            _ => Term::TyBound(depth, place, name),
         };
-        self.add(node, term, sort, 0)
+        self.add(node, term, bound.sort, 0)
     }
 
     // How many binders the node of that number stands in.
@@ -138,7 +163,8 @@ impl<'a> Namer<'a> {
         ) else {
             return Err(error_at(node, Wrong::TooLarge));
         };
-        self.bound_at(node, leaf, depth, place, digits)
+        let sort = bound_sort(leaf);
+        self.bound_at(node, Bound { place, sort }, depth, digits)
     }
 
     // What a name stands for that a binder gives, if one does; a type or a constant in no binder stands for the one of
@@ -150,8 +176,8 @@ impl<'a> Namer<'a> {
         leaf: Leaf,
     ) -> Result<Option<Made>, NameError> {
         let name = self.text_of(node)?;
-        if let Some((depth, place)) = self.binder_of(number, name) {
-            return Ok(Some(self.bound_at(node, leaf, depth, place, name)?));
+        if let Some((depth, bound)) = self.binder_of(number, name) {
+            return Ok(Some(self.bound_at(node, bound, depth, name)?));
         }
         let behind = match leaf {
             Leaf::BoundTy => node.start.saturating_add(1),
@@ -170,12 +196,9 @@ impl<'a> Namer<'a> {
         let numbers = self.parts(&node)?;
         let first = self.program.parts.len();
         for (place, number) in numbers.iter().enumerate() {
-            let name = self.node(&node, *number)?;
-            let NodeKind::Leaf(leaf) = name.kind else {
-                return Err(error_at(&name, Wrong::NotRead));
-            };
+            let (name, sort) = self.bound_name(&node, *number)?;
             let text = self.text_of(&name)?;
-            let made = self.bound_at(&name, leaf, 0, place, text)?;
+            let made = self.bound_at(&name, Bound { place, sort }, 0, text)?;
             self.program.parts.push(made.number)?;
         }
         let behind = self.program.parts.len();

@@ -42,6 +42,8 @@ pub enum Wrong {
     /// The name is no trait's, and it is one's.
     NoTrait,
     IsTrait,
+    /// The trait is another than that of the impl before.
+    OtherTrait,
     /// Something is assigned where only arguments stand.
     Assigned,
     /// The item has another number of parameters than there are arguments.
@@ -232,6 +234,7 @@ fn write_wrong<W: Write>(found: &str, why: Wrong, out: &mut W) -> fmt::Result
         Wrong::NoItem => write_expected("an item", found, out),
         Wrong::NoTrait => write_expected("a trait", found, out),
         Wrong::IsTrait => write_expected("no trait", found, out),
+        Wrong::OtherTrait => write_expected("the trait of the impl before", found, out),
         Wrong::Assigned => write_expected("an argument", found, out),
         Wrong::Parameter => write_expected("no parameter", found, out),
         Wrong::NumberType => write_expected("a number of a type of numbers", found, out),

@@ -1,6 +1,6 @@
 //! What the names of a text mean so far, and the program that was made so far.
 
-use crate::naming::binders::scopes_of;
+use crate::naming::binders::{Bound, scopes_of};
 use crate::naming::error::{NameError, Wrong, error_at};
 use crate::naming::plain::PLAIN;
 use crate::naming::program::{Mode, Parts, Program, Setup, Sort, Term};
@@ -41,8 +41,8 @@ pub(super) struct Namer<'a> {
     pub made: Vec<Option<Made>>,
     // The binder that each node stands in, if it stands in one: the nearest, by the node of what it binds.
     pub scopes: Vec<Option<usize>>,
-    // The places of what binders bind, by the binder and the name.
-    pub bound: HashMap<(usize, &'a str), usize>,
+    // What binders bind, by the binder and the name.
+    pub bound: HashMap<(usize, &'a str), Bound>,
     // The index of the next parameter, while there is one.
     pub next_index: Option<u32>,
     // How the contexts of the questions behind this are made.
@@ -88,6 +88,7 @@ impl<'a> Namer<'a> {
                 skips: Vec::new(alloc),
                 variables: Vec::new(alloc),
                 clauses: Vec::new(alloc),
+                methods: Vec::new(alloc),
                 stated: Vec::new(alloc),
                 sized: Vec::new(alloc),
                 questions: Vec::new(alloc),

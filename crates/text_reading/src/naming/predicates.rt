@@ -135,7 +135,7 @@ impl<'a> Namer<'a> {
     }
 
     // What is claimed of a trait.
-    fn claims(
+    pub fn claims(
         &mut self,
         node: &Node,
         claim: Claim,

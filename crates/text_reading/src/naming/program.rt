@@ -172,6 +172,15 @@ pub struct Stated {
     pub clauses: Parts,
 }
 
+/// A method of a table: what the type is generic over which it is for, each as it stands right under its binder, the
+/// type, and the number of the method's name.
+#[derive(Clone, Copy)]
+pub struct Method {
+    pub variables: Parts,
+    pub ty: usize,
+    pub name: usize,
+}
+
 /// One thing that is put for another.
 #[derive(Clone, Copy, PartialEq, Eq)]
 pub struct Put<T> {
@@ -274,6 +283,22 @@ pub enum QuestionKind {
     },
     /// The traits that a trait, by its number, leads to.
     SupertraitIds(usize),
+    /// Whether the headers of two impls overlap, each the predicate of that number that the type implements the trait.
+    Overlap {
+        left: usize,
+        right: usize,
+    },
+    /// Which methods may be for a type, of those of a range of the program's list.
+    Methods {
+        methods: Parts,
+        of: usize,
+    },
+    /// Whether what was recorded of regions can hold where each region of the first list outlives the one at its place
+    /// in the second.
+    Solve {
+        longer: Parts,
+        shorter: Parts,
+    },
     /// Whether two variables are one.
     One(VariableId, VariableId),
     /// What a variable is bound to.
@@ -341,8 +366,10 @@ pub struct Program<'a> {
     pub skips: Vec<usize>,
     /// The variables that contexts have, in the order of their universes.
     pub variables: Vec<Variables>,
-    /// The predicates that traits state, those that are assumed, and those of questions.
+    /// The predicates that traits state, those that are assumed, and those of questions, headers of impls among them.
     pub clauses: Vec<Clause>,
+    /// The methods of tables.
+    pub methods: Vec<Method>,
     pub stated: Vec<Stated>,
     /// The traits, by their numbers, that the language knows as `Sized`.
     pub sized: Vec<usize>,

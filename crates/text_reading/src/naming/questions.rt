@@ -166,6 +166,10 @@ impl<'a> Namer<'a> {
                 let of = self.trait_of(node, *name)?;
                 self.note(QuestionKind::SupertraitIds(of))
             }
+            (Form::Overlap, [lhs, rhs]) => self.note_overlap(node, *lhs, *rhs),
+            (Form::Methods, _) => self.note_methods(node, parts),
+            (Form::Solve, _) => self.note_solve(node, parts),
+            (Form::ImplHeader | Form::Method, _) => Ok(()),
             (Form::Terms | Form::Put | Form::Outlives | Form::Error, _) => Ok(()),
             (Form::Limit | Form::Pulls, _) => Ok(()),
             _ => Err(error_at(node, Wrong::NotRead)),

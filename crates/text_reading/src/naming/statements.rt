@@ -26,8 +26,8 @@ impl<'a> Namer<'a> {
         usize::try_from(value).map_err(|_| error_at(&node, Wrong::TooLarge))
     }
 
-    // A parameter that an item declares.
-    fn declared(&self, whole: &Node, number: usize) -> Result<(Node, Declared<'a>), NameError> {
+    // A parameter that an item declares, or that an impl is generic over.
+    pub fn declared(&self, whole: &Node, number: usize) -> Result<(Node, Declared<'a>), NameError> {
         let node = self.node(whole, number)?;
         let [name] = self.parts(&node)? else {
             return Err(error_at(&node, Wrong::NotRead));
@@ -268,7 +268,7 @@ impl<'a> Namer<'a> {
                 let name = self.node(node, *name)?;
                 self.declare(&name, Meaning::Term(made))
             }
-            (Form::Bound, _) => self.declare_bound(node, parts),
+            (Form::Bound | Form::Generics, _) => self.declare_bound(node, parts),
             (Form::File | Form::Declared(_) | Form::DeclaredConst(_) | Form::Parameters, _) => {
                 Ok(())
             }

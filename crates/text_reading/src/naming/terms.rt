@@ -240,10 +240,11 @@ impl<'a> Namer<'a> {
         node: &Node,
         number: usize,
         leaf: Leaf,
+        expected: Option<Sort>,
     ) -> Result<Made, NameError> {
         match self.bound_leaf(node, number, leaf)? {
             Some(made) => Ok(made),
-            None => self.named(node, missing_at(leaf, None)),
+            None => self.named(node, missing_at(leaf, expected)),
         }
     }
 
@@ -256,9 +257,8 @@ impl<'a> Namer<'a> {
         expected: Option<Sort>,
     ) -> Result<Made, NameError> {
         match leaf {
-            Leaf::Name => self.named(node, missing_at(leaf, expected)),
-            Leaf::Lifetime | Leaf::BoundTy | Leaf::BoundConst => {
-                self.named_or_bound(node, place, leaf)
+            Leaf::Name | Leaf::Lifetime | Leaf::BoundTy | Leaf::BoundConst => {
+                self.named_or_bound(node, place, leaf, expected)
             }
             Leaf::OuterTy { depth, behind }
             | Leaf::OuterConst { depth, behind }

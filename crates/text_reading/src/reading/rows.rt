@@ -3,12 +3,14 @@ ghost use Rattle.std.specs.Prelude.{◌≡◌, ◌<◌, length};
 ghost use Rattle.text_reading.specs.Rows.{rows_of};
 ghost use Rattle.text_reading.specs.Shapes.{rows_in};
 
+mod impls;
 mod predicates;
 mod questions;
 mod statements;
 mod terms;
 
 use crate::reading::shapes::{Shape, Sort};
+use impls::{GENERIC_PARAM, GENERICS, IMPL_HEADER, METHOD};
 use predicates::{LIMIT, PREDICATE, PREDICATE_BINDER, PULLS};
 use questions::{ARGUMENTS, ASKED, NUMBER, OUTLIVES, PAIR, PUT, QUESTION, SKIP, STOP};
 use statements::{DECLARED, MADE, PARAMETER, STATEMENT, STATING};
@@ -41,6 +43,10 @@ pub(super) fn rows_of(sort: Sort) -> &'static [Shape]
         Sort::Limit => &LIMIT,
         Sort::Pulls => &PULLS,
         Sort::Predicate => &PREDICATE,
+        Sort::ImplHeader => &IMPL_HEADER,
+        Sort::Generics => &GENERICS,
+        Sort::GenericParam => &GENERIC_PARAM,
+        Sort::Method => &METHOD,
         Sort::PredicateBinder => &PREDICATE_BINDER,
         Sort::Binder => &BINDER,
         Sort::NoBinder => &NO_BINDER,

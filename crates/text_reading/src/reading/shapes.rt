@@ -29,6 +29,12 @@ pub enum Sort {
     Limit,
     Pulls,
     Predicate,
+    /// The header of an impl, the list of what it is generic over, and what stands in it.
+    ImplHeader,
+    Generics,
+    GenericParam,
+    /// A method of a table.
+    Method,
     /// The binder of a predicate, that of a trait object's bound, and the one that is always left out.
     PredicateBinder,
     Binder,

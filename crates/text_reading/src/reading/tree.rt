@@ -175,6 +175,18 @@ pub enum Form {
     One,
     /// What a variable is bound to: the variable.
     Binding,
+    /// Whether two impls overlap: the `ImplHeader` of each.
+    Overlap,
+    /// The header of an impl: the `Generics` that it is under, the `Named` of the trait, and the type that implements it.
+    ImplHeader,
+    /// What an impl, or the type of a method, is generic over: a `Declared` or a `DeclaredConst` for each.
+    Generics,
+    /// Which methods of a table may be for a type: the `Method`s, and the type.
+    Methods,
+    /// A method: the `Generics` that the type is under which it is for, the type, and the method's name.
+    Method,
+    /// Whether what a relation records of regions can hold: an `Outlives` for each fact about regions.
+    Solve,
     /// A list of terms.
     Terms,
     /// A term, and the one that is put for it.

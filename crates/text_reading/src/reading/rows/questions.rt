@@ -29,7 +29,7 @@ pub(in crate::reading) static QUESTION: [Shape; 3] = [
 ];
 
 // What is asked.
-pub(in crate::reading) static ASKED: [Shape; 28] = [
+pub(in crate::reading) static ASKED: [Shape; 31] = [
     (
         Node(Form::Visit),
         &[
@@ -297,6 +297,33 @@ pub(in crate::reading) static ASKED: [Shape; 28] = [
     (
         Node(Form::Binding),
         &[Mark(Sign::Binding), Leaf(Expected::AnyVariable)],
+    ),
+    (
+        Node(Form::Overlap),
+        &[
+            Mark(Sign::Overlap),
+            Part(Sort::ImplHeader),
+            Mark(Sign::Comma),
+            Part(Sort::ImplHeader),
+        ],
+    ),
+    (
+        Node(Form::Methods),
+        &[
+            Mark(Sign::Methods),
+            Mark(Sign::LeftBrace),
+            List(Sort::Method, Line::To(Sign::RightBrace)),
+            Mark(Sign::Of),
+            Part(Sort::Term),
+        ],
+    ),
+    (
+        Node(Form::Solve),
+        &[
+            Mark(Sign::Solve),
+            Further(Sign::Where),
+            List(Sort::Outlives, Line::By(Sign::Comma)),
+        ],
     ),
     (ITSELF, &[Part(Sort::Pair)]),
 ];

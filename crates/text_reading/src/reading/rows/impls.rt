@@ -1,0 +1,55 @@
+//! How impls and methods are written. What one is generic over stands as an item's parameters do, without a variance.
+use crate::reading::error::Expected;
+use crate::reading::shapes::Makes::Node;
+use crate::reading::shapes::Piece::{Leaf, List, Mark, Part};
+use crate::reading::shapes::{Line, Shape, Sort};
+use crate::reading::signs::Sign;
+use crate::reading::tree::Form;
+use term_enums::Variance;
+
+// The header of an impl.
+pub(in crate::reading) static IMPL_HEADER: [Shape; 1] = [(
+    Node(Form::ImplHeader),
+    &[
+        Mark(Sign::Impl),
+        Part(Sort::Generics),
+        Part(Sort::Named),
+        Mark(Sign::For),
+        Part(Sort::Term),
+    ],
+)];
+
+// What an impl is generic over, or the list that is left out.
+pub(in crate::reading) static GENERICS: [Shape; 2] = [
+    (
+        Node(Form::Generics),
+        &[
+            Mark(Sign::Less),
+            List(Sort::GenericParam, Line::To(Sign::Greater)),
+        ],
+    ),
+    (Node(Form::Generics), &[]),
+];
+
+pub(in crate::reading) static GENERIC_PARAM: [Shape; 2] = [
+    (
+        Node(Form::DeclaredConst(Variance::Invariant)),
+        &[Mark(Sign::Const), Leaf(Expected::Name)],
+    ),
+    (
+        Node(Form::Declared(Variance::Invariant)),
+        &[Leaf(Expected::Parameter)],
+    ),
+];
+
+// A method, and the type that it is for.
+pub(in crate::reading) static METHOD: [Shape; 1] = [(
+    Node(Form::Method),
+    &[
+        Mark(Sign::Impl),
+        Part(Sort::Generics),
+        Part(Sort::Term),
+        Mark(Sign::FatArrow),
+        Leaf(Expected::Name),
+    ],
+)];
