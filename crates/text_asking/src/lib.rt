@@ -18,6 +18,7 @@ mod outliving;
 pub mod printing;
 mod question;
 mod quick;
+mod regions;
 mod roots;
 pub mod sized_keys;
 mod visiting;

@@ -15,10 +15,12 @@ use crate::folding::{fold, puts_at};
 use crate::lists::ask_args_related;
 use crate::outliving::{ask_assumptions, ask_components};
 use crate::quick::{KeyOf, ask_args_may_unify, ask_key, ask_may_unify};
+use crate::regions::ask_regions;
 use crate::roots::{ask_binding, ask_one};
 use crate::sized_keys::SizedKeys;
 use crate::visiting::{Met, visit};
 use crate::walking::numbers_at;
+use context_regions::Solved;
 use relation_folds::visit::{has_escaping_bound_vars, has_non_region_infer, is_known_rigid};
 use relation_reference::context::RefCtxt;
 use relation_terms::predicate::OutlivesPredicate;
@@ -62,7 +64,7 @@ pub(super) enum Unasked {
 
 // What is answered to a question.
 #[derive(Drop)]
-pub(super) enum Answer<R, K, X, D, N> {
+pub(super) enum Answer<R, K, X: Copy, D, N> {
     Related(R),
     Met(Met<X>),
     Walked(Vec<GenericArgKind<X>>),
@@ -73,6 +75,7 @@ pub(super) enum Answer<R, K, X, D, N> {
     Key(K),
     Pulls(Vec<Pulled<X, D>>),
     Binding(Option<GenericArgKind<X>>),
+    Solved(Solved<X>),
 }
 
 // What is answered to a question over an interner.
@@ -378,6 +381,13 @@ fn ask<I: SizedKeys>(ctx: &mut RefCtxt<I>, terms: &Ready<I>, question: &Question
             let bound = ask_binding(ctx, variable)?;
             Ok(Answer::Binding(bound))
         }
+        QuestionKind::Solve { longer, shorter } => {
+            let solved = ask_regions(ctx, terms, longer, shorter)?;
+            Ok(Answer::Solved(solved))
+        }
+        // Helper B asks these.
+        QuestionKind::Overlap { .. } => Err(Unasked::Memory),
+        QuestionKind::Methods { .. } => Err(Unasked::Memory),
     }
 }
 
