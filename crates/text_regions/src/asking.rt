@@ -101,5 +101,6 @@ pub fn ask_solved<C: RecordedRegions>(
     ensures known { IfOk result (KnowsSolved (C.state ctx.new).meaning) }
 {
     let facts = facts_of(ctx, stated)?;
-    Ok(solve(ctx, &facts)?)
+    let solved = solve(ctx, &facts)?;
+    Ok(solved)
 }
