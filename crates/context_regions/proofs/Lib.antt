@@ -2,7 +2,7 @@ pub mod AWorld
 pub mod Answered
 pub mod Constraints
 pub mod Decided
-pub mod Facts
+pub mod FactLemmas
 pub mod Forms
 pub mod Found
 pub mod FreeRegions
