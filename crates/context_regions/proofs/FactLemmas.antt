@@ -1,5 +1,5 @@
 -- Of which regions of a context a fact may be stated.
-use Rattle.std.proofs.Common.{◌≡◌, ℕ, ◌<◌, ◌≤◌, ap, inl, inr, true, false, IsTrue, IsFalse, arith}
+use Rattle.std.proofs.Common.{◌≡◌, ℕ, ◌<◌, ◌≤◌, ap, refl, inl, inr, Bool, true, false, not, IsTrue, IsFalse, arith}
 use Rattle.std.proofs.lemmas.Bool.{cases_lt, lt-ltb, ltb-true}
 use Rattle.relation_terms.specs.declared.predicate.regions.OutlivesPredicate.{OutlivesPredicate}
 use Rattle.relation_terms.specs.declared.terms.keys.RegionKey.{RegionKey}
@@ -43,10 +43,10 @@ given_in st (cons t ts) h e = absurd h
 other_in : (st : Store) (t : Tree) → cannot_be_given st t ≡ true → IsRegionIn st t → IsNotVariable region_var t → ⊥
 unfolding IsTermIn InContext
 other_in st (leaf (variable k n)) e h f = f n (ap (λ j. leaf (variable j n)) (region_kind_is k n h.0))
-other_in st (leaf (bound k d i)) e h f = let lt : d < 0 = h.1.1.0 in absurd (omega (arith, lt))
+other_in st (leaf (bound k d i)) e h f = let lt : d < 0 = h.1.1 in absurd (omega (arith, lt))
 other_in st (leaf (placeholder k u n)) e h f =
     let lt : st.universe < u = ltb-true st.universe u e in
-    let le : u ≤ st.universe = h.1.1.1 in
+    let le : u ≤ st.universe = h.1.2 in
     absurd (omega (arith, lt, le))
 other_in st (leaf (atom x)) e h f = absurd cc
 other_in st (leaf unknown) e h f = absurd (h.1).0
@@ -54,6 +54,15 @@ other_in st (node k ts) e h f = absurd (no_head k (h.0).0)
 other_in st (bind ks t) e h f = absurd h.0
 other_in st nil e h f = absurd h.0
 other_in st (cons t ts) e h f = absurd h.0
+
+-- What is not so, and what is.
+pub not_so : (b : Bool) → IsTrue (not b) → b ≡ false
+not_so true h = absurd cc
+not_so false h = refl
+
+pub so : (b : Bool) → IsFalse (not b) → b ≡ true
+so true h = refl
+so false h = absurd cc
 
 -- A fact, by its regions.
 module _ {Key Id Name : Type 0} (c : Context Key Id Name) (f : OutlivesPredicate Key (RegionKey Key)) where

@@ -55,7 +55,7 @@ module _ {Key Id Name : Type 0} (c : Context Key Id Name) (facts : List (Outlive
       let pairs = region_pairs c.meaning facts in
       (
         mentioned_known pairs c.store p.0 h are_regions (o.0).mentioned,
-        mentioned_known pairs c.store p.1 h are_regions (o.1.0).mentioned,
+        mentioned_known pairs c.store p.1 h are_regions (o.1).mentioned,
       )
   solved_known (Unmet longer shorter by) least unmet =
       let pairs = region_pairs c.meaning facts in
