@@ -1,12 +1,14 @@
 -- What an overlap checker answers, between what a context is before the call and after it.
-use Rattle.std.specs.Prelude.{◌≡◌, ℕ, Result, Ok, Err}
+use Rattle.std.specs.Prelude.{◌≡◌, ℕ, Result, Ok, Err, IsTrue, All}
 use Rattle.relation_terms.specs.declared.terms.binder.Binder.{Binder}
 use Rattle.relation_terms.specs.declared.terms.keys.ArgsKey.{ArgsKey}
-use Rattle.relation_terms.specs.Trees.{Tree, Leaves}
-use Rattle.relation_folds.specs.Faults.{IfSpent}
+use Rattle.relation_terms.specs.Meaning.{Meaning}
+use Rattle.relation_terms.specs.Trees.{Tree, Leaves, known}
+use Rattle.relation_folds.specs.Faults.{IfSpent, KnowsError, KnowsFault}
 use Rattle.relation_folds.specs.declared.error.RelateFault.{RelateFault}
 use Rattle.relation_semantics.specs.Contexts.{Context}
 use Rattle.relation_semantics.specs.FirstOrder.{IsFirstOrderStore}
+use Rattle.relation_semantics.specs.Goals.{KnowsGoal}
 use Rattle.relation_semantics.specs.Stores.{IsFree}
 use Rattle.relation_coherence.specs.declared.answer.WhyApart.TheVariants.{ByForm, ByRelating}
 use Rattle.relation_coherence.specs.declared.answer.Overlap.{Overlap}
@@ -14,6 +16,14 @@ use Rattle.relation_coherence.specs.declared.answer.Overlap.TheVariants.{Apart, 
 use Rattle.relation_coherence.specs.Bounds.{WasTooFew}
 use Rattle.relation_coherence.specs.Headers.{header_tree}
 use Rattle.relation_coherence.specs.Overlaps.{AreApart, AreApartErased, Covers, IsCommon, IsFirstOrderHeader}
+
+-- The interner knows what is answered: the header and the goals, why the two do not relate, or the fault.
+abbrev pub KnowsOverlap : {Key Id Name : Type 0} → Meaning Key Id Name →
+    Result (Overlap Key Id Name) (RelateFault Key Id Name) → Type 0
+KnowsOverlap m (Ok (Apart ByForm)) = Unit {0}
+KnowsOverlap m (Ok (Apart (ByRelating e))) = KnowsError m e
+KnowsOverlap m (Ok (Meets header goals)) = IsTrue (known (m.args header)) × All (KnowsGoal m) goals.items
+KnowsOverlap m (Err f) = KnowsFault m f
 
 -- What two contexts are, before the call and after it, and two headers.
 module _ {Key Id Name : Type 0} (c d : Context Key Id Name) (a b : Binder Key (ArgsKey Key)) where

@@ -9,7 +9,7 @@ ghost use Rattle.relation_semantics.specs.Stores.{IsSound};
 ghost use Rattle.relation_coherence.specs.Headers.{KnowsHeader, TakesHeader, HasHeader, AreOfOneLength};
 ghost use Rattle.relation_coherence.specs.Headers.{IsClosedHeader, AgreeOnNames};
 ghost use Rattle.relation_coherence.specs.Answers.{TellsApart, TellsApartErased, CoversBoth, MeetsInCommon};
-ghost use Rattle.relation_coherence.specs.Answers.{IsResolved, SpendsAll};
+ghost use Rattle.relation_coherence.specs.Answers.{IsResolved, SpendsAll, KnowsOverlap};
 
 pub use crate::answer::{HeaderOf, Overlap, OverlapOf, WhyApart};
 use crate::opening::open_both;
@@ -62,6 +62,7 @@ pub fn overlap<C: InferCtxtLike>(
     ensures common { MeetsInCommon (C.state ctx.old) (C.state ctx.new) left right result }
     ensures resolved { IsResolved (C.state ctx.old) (C.state ctx.new) left right result }
     ensures bounded { SpendsAll (C.state ctx.old) (C.state ctx.new) left right result }
+    ensures known { KnowsOverlap (C.state ctx.new).meaning result }
     ensures later { IsLater (C.state ctx.old).store (C.state ctx.new).store }
     ensures sound { IsSound (C.state ctx.new).store }
     ensures lawful { (C.state ctx.new).lawful }

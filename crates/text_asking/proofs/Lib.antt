@@ -8,3 +8,4 @@ pub mod OutlivesLemmas
 pub mod AssumeLemmas
 pub mod Universes
 pub mod EnvironmentLemmas
+pub mod CoherenceLemmas

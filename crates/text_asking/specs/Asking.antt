@@ -18,6 +18,7 @@ use Rattle.variable_tables.specs.declared.inner.VariableValue.TheVariants.{Known
 use Rattle.variable_tables.specs.Variables.{value_at, universes_of}
 use Rattle.relation_folds.specs.declared.error.RelateFault.{RelateFault}
 use Rattle.relation_folds.specs.Faults.{KnowsFault}
+use Rattle.relation_coherence.specs.Answers.{KnowsOverlap}
 use Rattle.relation_semantics.specs.Bound.{IsWellBound}
 use Rattle.term_enums.specs.declared.StructurallyRelateAliases.{StructurallyRelateAliases}
 use Rattle.term_enums.specs.declared.StructurallyRelateAliases.TheVariants.{No, Yes}
@@ -38,7 +39,8 @@ use Rattle.text_needs.specs.declared.needs.Needs.{Needs}
 use Rattle.text_asking.specs.declared.question.Ready.{Ready}
 use Rattle.text_asking.specs.declared.question.Answer.{Answer}
 use Rattle.text_asking.specs.declared.question.Answer.TheVariants.{Related, Met, Walked, Components, Folded, Is}
-use Rattle.text_asking.specs.declared.question.Answer.TheVariants.{Assumed, Key as key, Pulls, Binding, Solved}
+use Rattle.text_asking.specs.declared.question.Answer.TheVariants.{Assumed, Key as key, Pulls, Binding, Overlap, Methods}
+use Rattle.text_asking.specs.declared.question.Answer.TheVariants.{Solved}
 use Rattle.outlives_assumptions.specs.Assumptions.{IsKnown}
 use Rattle.text_asking.specs.Meets.{AllKnown}
 use Rattle.text_needs.specs.Needs.{Allows, Reaches, largest, need_at}
@@ -171,6 +173,8 @@ KnowsAnswer m Knows (key k) = Unit {0}
 KnowsAnswer m Knows (Pulls ps) = All (KnowsPulled m) ps.items
 KnowsAnswer m Knows (Binding b) = IfSome b (λ a. IsTrue (known (arg_tree m a)))
 KnowsAnswer m Knows (Solved s) = KnowsSolved m s
+KnowsAnswer m Knows (Overlap of told) = KnowsOverlap m told
+KnowsAnswer m Knows (Methods names) = Unit {0}
 
 -- What variables are bound to is known.
 abbrev pub AreBoundKnown : {K : Type 0} → (K → Tree) → List (Variable K) → Type 0

@@ -6,5 +6,6 @@ pub mod Puts
 pub mod Skips
 pub mod Roots
 pub mod Counts
+pub mod Impls
 pub use Rattle.text_needs.specs.Binding
 pub use Rattle.text_needs.specs.Needs

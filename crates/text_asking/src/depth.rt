@@ -5,7 +5,7 @@ use crate::question::Unasked;
 use std::alloc::{AllocError, Global};
 use text_needs::needs::{Needs, need_at};
 use text_reading::naming::{
-    Parts, Program, Question, QuestionKind, Term, VariableId, VariableKind,
+    Parts, Program, Question, QuestionKind, Says, Term, VariableId, VariableKind,
 };
 
 // How many terms with variables a chain may lead through, and by how many levels elaborating may make terms deeper.
@@ -96,7 +96,9 @@ fn relates(program: &Program) -> bool {
     for question in &program.questions {
         if matches!(
             &question.kind,
-            QuestionKind::Relate { .. } | QuestionKind::RelateArgs { .. }
+            QuestionKind::Relate { .. }
+                | QuestionKind::RelateArgs { .. }
+                | QuestionKind::Overlap { .. }
         ) {
             return true;
         }
@@ -104,17 +106,31 @@ fn relates(program: &Program) -> bool {
     false
 }
 
+// Adds the numbers of the arguments of an impl's header.
+fn push_header(program: &Program, number: usize, found: &mut Vec<usize>) -> Result<(), AllocError> {
+    if let Some(clause) = program.clauses.get(number) {
+        if let Says::Claims(_, _, args) = clause.says {
+            push_range(&program.parts, args, found)?;
+        }
+    }
+    Ok(())
+}
+
 // The numbers of the terms that are related.
 fn push_related(
-    numbers: &[usize],
+    program: &Program,
     kind: &QuestionKind,
     found: &mut Vec<usize>,
 ) -> Result<(), AllocError> {
     match kind {
         QuestionKind::Relate { lhs, rhs, .. } => found.extend_from_slice(&[*lhs, *rhs])?,
         QuestionKind::RelateArgs { lhs, rhs } => {
-            push_range(numbers, *lhs, found)?;
-            push_range(numbers, *rhs, found)?;
+            push_range(&program.parts, *lhs, found)?;
+            push_range(&program.parts, *rhs, found)?;
+        }
+        QuestionKind::Overlap { left, right } => {
+            push_header(program, *left, found)?;
+            push_header(program, *right, found)?;
         }
         _ => {}
     }
@@ -379,7 +395,7 @@ impl Depths {
         self.types.go_on(made.types)?;
         self.consts.go_on(made.consts)?;
         let mut roots = Vec::new(self.alloc);
-        push_related(&program.parts, &question.kind, &mut roots)?;
+        push_related(program, &question.kind, &mut roots)?;
         let found = self.find(program, &roots)?;
         let before = if found.fresh {
             self.chained.saturating_mul(2)

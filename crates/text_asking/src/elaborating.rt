@@ -76,7 +76,7 @@ pub(super) fn ask_elaborated<I: Interner>(
 }
 
 // The trait reference that a predicate of a program claims. There is none where a growth was refused.
-fn bound_of<I: Interner>(
+pub(super) fn bound_of<I: Interner>(
     cx: &mut I,
     terms: &Ready<I>,
     number: usize,

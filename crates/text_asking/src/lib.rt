@@ -4,6 +4,7 @@
 ghost use Rattle.text_asking.specs.Asking.{AllReady};
 
 mod answer_text;
+mod coherence;
 mod comparing;
 mod context;
 mod counts;
@@ -161,6 +162,7 @@ pub fn ask_over<I: SizedKeys + Drop, W: Write>(
         puts: &program.puts,
         skips: &program.skips,
         clauses: &program.clauses,
+        methods: &program.methods,
         ids,
         names,
         no_ids,

@@ -223,7 +223,7 @@ fn write_constraint<I: Interner, W: Write>(
 }
 
 // Writes the constraints that a context has recorded, if any.
-fn write_constraints<I: Interner, W: Write>(
+pub(crate) fn write_constraints<I: Interner, W: Write>(
     ctx: &RefCtxt<I>,
     texts: &TextsOf<I>,
     out: &mut W,
@@ -339,7 +339,7 @@ fn write_goal<I: Interner, W: Write>(
 }
 
 // Writes the goals that a relation leaves, if any, in the order in which they were registered.
-fn write_goals<I: Interner, W: Write>(
+pub(crate) fn write_goals<I: Interner, W: Write>(
     cx: &I,
     texts: &TextsOf<I>,
     goals: &[GoalOf<I>],
@@ -435,7 +435,7 @@ fn write_bound<I: Interner, W: Write>(
 }
 
 // Writes that a context has met an error, if it has.
-fn write_tainted<I: Interner, W: Write>(ctx: &RefCtxt<I>, out: &mut W) -> fmt::Result {
+pub(crate) fn write_tainted<I: Interner, W: Write>(ctx: &RefCtxt<I>, out: &mut W) -> fmt::Result {
     if ctx.tainted() {
         return out.write_str("; tainted");
     }

@@ -8,6 +8,7 @@ ghost use Rattle.text_asking.specs.Meets.{AllKnown};
 ghost use Rattle.text_asking.specs.Asking.{AllReady, IsReady, IsSetUp, KnowsAnswer, KnowsRelated};
 
 use crate::BUDGET;
+use crate::coherence::{ask_impls_overlap, ask_methods};
 use crate::context::{NotAsked, have_all_stated, have_variables, refusal, relate, renewed};
 use crate::elaborating::{ask_elaborated, ask_supertrait_ids, ask_supertraits, told};
 use crate::environment::environment_of;
@@ -21,15 +22,18 @@ use crate::sized_keys::SizedKeys;
 use crate::visiting::{Met, visit};
 use crate::walking::numbers_at;
 use context_regions::Solved;
+use relation_coherence::overlap::Overlap;
+use relation_folds::error::RelateFault;
 use relation_folds::visit::{has_escaping_bound_vars, has_non_region_infer, is_known_rigid};
 use relation_reference::context::RefCtxt;
 use relation_terms::predicate::OutlivesPredicate;
-use relation_terms::terms::{GenericArg, GenericArgKind, Interner, Keys, LocalDefIds, Ty};
+use relation_terms::terms::{GenericArg, GenericArgKind, Interner, Keys, LocalDefIds, TraitId, Ty};
 use relation_tools::outlives::Component;
 use std::alloc::Global;
+use text_coherence::overlapping::WhyNot;
 use text_elaboration::pulls::{Manner, Pulled};
 use text_needs::needs::{Needs, both, need_at};
-use text_reading::naming::{Clause, Parts, Put, Question, QuestionKind, Variables};
+use text_reading::naming::{Clause, Method, Parts, Put, Question, QuestionKind, Variables};
 use text_reading::reading::Relation;
 use text_terms::building::{key_at, keys_at, ty_at};
 use type_relations::relate::solver_relating::RelateGoals;
@@ -46,6 +50,8 @@ pub(super) struct Ready<'a, I: Interner> {
     pub skips: &'a [usize],
     // The predicates of questions, and the ids and names that they are made of.
     pub clauses: &'a [Clause],
+    // The methods of tables.
+    pub methods: &'a [Method],
     pub ids: &'a [I::Id],
     pub names: &'a [I::Name],
     // The list without ids, which typing modes name.
@@ -60,6 +66,8 @@ pub(super) enum Unasked {
     // A growth was refused before the terms could be related.
     Memory,
     NotAsked(NotAsked),
+    // Why two impls are not asked about.
+    Impls(WhyNot),
 }
 
 // What is answered to a question.
@@ -76,6 +84,9 @@ pub(super) enum Answer<R, K, X: Copy, D, N> {
     Pulls(Vec<Pulled<X, D>>),
     Binding(Option<GenericArgKind<X>>),
     Solved(Solved<X>),
+    // Of two impls of a trait.
+    Overlap(TraitId<D>, Result<Overlap<X, D, N>, RelateFault<X, D, N>>),
+    Methods(Vec<N>),
 }
 
 // What is answered to a question over an interner.
@@ -373,6 +384,15 @@ fn ask<I: SizedKeys>(ctx: &mut RefCtxt<I>, terms: &Ready<I>, question: &Question
             let all = ask_supertrait_ids(&ctx.interner, terms, item)?;
             Ok(Answer::Pulls(all))
         }
+        QuestionKind::Overlap { left, right } => {
+            let told = ask_impls_overlap(ctx, terms, question.assumed, left, right)?;
+            Ok(Answer::Overlap(told.0, told.1))
+        }
+        QuestionKind::Methods { methods, of } => {
+            let names = ask_methods(ctx, terms, methods, of)?;
+            Ok(Answer::Methods(names))
+        }
+        QuestionKind::Solve { .. } => Err(Unasked::Memory),
         QuestionKind::One(first, second) => {
             let one = ask_one(ctx, first, second)?;
             Ok(Answer::Is(one))
@@ -385,9 +405,6 @@ fn ask<I: SizedKeys>(ctx: &mut RefCtxt<I>, terms: &Ready<I>, question: &Question
             let solved = ask_regions(ctx, terms, longer, shorter)?;
             Ok(Answer::Solved(solved))
         }
-        // Helper B asks these.
-        QuestionKind::Overlap { .. } => Err(Unasked::Memory),
-        QuestionKind::Methods { .. } => Err(Unasked::Memory),
     }
 }
 

@@ -6,6 +6,7 @@ ghost use Rattle.variable_tables.specs.Tables.{IsLawful};
 ghost use Rattle.text_asking.specs.Asking.{KnowsAnswer, KnowsRelated};
 
 use crate::answer_text::{AnswerText, CUT_OFF};
+use crate::coherence::{write_methods, write_overlap};
 use crate::context::write_not_asked;
 use crate::counts::write_counted;
 use crate::elaborating::write_lowered;
@@ -20,10 +21,24 @@ use relation_reference::context::RefCtxt;
 use relation_semantics::infer_ctxt::InferCtxtLike;
 use relation_terms::terms::{GenericArg, Interner};
 use std::fmt::{self, Write};
+use text_coherence::overlapping::write_why_not;
 use text_elaboration::pulls::write_pulls;
 use text_regions::write_solved;
 use text_terms::printing::{TextsOf, write_arg};
 use type_relations::relate::solver_relating::RelateGoals;
+
+// Writes how many instantiations are left, where it was said how many a context may make.
+fn write_left<I: Interner, W: Write>(
+    ctx: &RefCtxt<I>,
+    asked: &Bounded,
+    out: &mut W,
+) -> fmt::Result {
+    if asked.question.budget.is_some() {
+        let left = ctx.budget_left();
+        write!(out, "; left={left}")?;
+    }
+    Ok(())
+}
 
 // Writes what a relation answered, or how much it leaves where that is counted, and how many instantiations are left
 // where it was said how many a relation may make.
@@ -41,11 +56,7 @@ fn write_related<I: Interner, W: Write>(
         (Some(counted), Ok(goals)) => write_counted(ctx, counted, goals, out)?,
         _ => write_answer(ctx, texts, related, out)?,
     }
-    if asked.question.budget.is_some() {
-        let left = ctx.budget_left();
-        write!(out, "; left={left}")?;
-    }
-    Ok(())
+    write_left(ctx, asked, out)
 }
 
 // Writes what a variable is bound to, or that it is to nothing.
@@ -88,6 +99,11 @@ fn write_given<I: Interner, W: Write>(
         Answer::Pulls(all) => write_pulls(&ctx.interner, texts, all, out),
         Answer::Binding(bound) => write_binding(&ctx.interner, texts, bound, out),
         Answer::Solved(solved) => write_solved(ctx, texts, solved, out),
+        Answer::Overlap(of, told) => {
+            write_overlap(ctx, texts, *of, told, out)?;
+            write_left(ctx, asked, out)
+        }
+        Answer::Methods(names) => write_methods::<I, W>(texts, names, out),
     }
 }
 
@@ -106,6 +122,7 @@ fn write_outcome<I: Interner, W: Write>(
     match outcome {
         Err(Unasked::Memory) => out.write_str("memory"),
         Err(Unasked::NotAsked(why)) => write_not_asked(*why, out),
+        Err(Unasked::Impls(why)) => write_why_not(*why, out),
         Ok(answer) => write_given(ctx, texts, asked, answer, out),
     }
 }

@@ -3,6 +3,7 @@
 ghost use Rattle.std.specs.Prelude.{IsTrue};
 ghost use Rattle.relation_terms.specs.Trees.{known};
 ghost use Rattle.relation_terms.specs.Owned.{bound_tree};
+ghost use Rattle.relation_terms.specs.Predicates.{trait_ref_tree};
 
 mod claims;
 mod kinds;
@@ -63,4 +64,23 @@ pub fn write_bound<I: Interner, W: Write>(
     write_for(vars, &outside, out)?;
     let inside = enter(&outside, vars.len());
     write_implemented(cx, texts, &inside, &bound.value, "", !vars.is_empty(), out)
+}
+
+/// Writes that a trait is implemented, where no binder stands around that: `T: Tr<U>`.
+///
+/// The interner has to know the trait reference.
+///
+/// # Errors
+/// `fmt::Error` where `out` refused to take some of the text, or memory for the letters of free regions was refused.
+/// What `out` took before stands.
+pub fn write_trait_ref<I: Interner, W: Write>(
+    cx: &I,
+    texts: &TextsOf<I>,
+    of: &TraitRef<I::Key, I::Id>,
+    out: &mut W,
+) -> fmt::Result
+    requires { IsTrue (known (trait_ref_tree (I.meaning cx.now) of.now)) }
+{
+    let letters = free_letters(cx, texts, of)?;
+    write_implemented(cx, texts, &Around::Nothing(&letters), of, "", false, out)
 }

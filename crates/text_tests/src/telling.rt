@@ -172,7 +172,14 @@ const WRONG: &str = "\
     may unify[rigid, rigid] u8, u8 at 1u8; => text:1:35: expected a number alone, found `1u8`\n\
     args may unify[rigid, rigid] [u8], [2]; => text:1:37: expected a type, found a constant\n\
     param 'a; key 'a; => text:1:15: expected a type, found a region\n\
-    visit unsafe<'a> 2; => text:1:18: expected a type, found a constant";
+    visit unsafe<'a> 2; => text:1:18: expected a type, found a constant\n\
+    trait A; trait B; overlap impl A for u8, impl B for u8; => text:1:47: expected the trait of the impl before, found `B`\n\
+    trait A; overlap impl<T, T> A for u8, impl A for u8; => text:1:26: expected a new name, found `T`\n\
+    trait A; overlap impl<^0> A for u8, impl A for u8; => text:1:23: expected a parameter, found `^0`\n\
+    overlap impl A for u8, impl A for u8; => text:1:14: `A` is no trait yet; `trait A;` declares one\n\
+    methods{impl<const N> N=>a}of u8; => text:1:23: expected a type, found a constant\n\
+    methods{u8=>a}of u8; => text:1:9: expected `impl`, found `u8`\n\
+    solve where u8: 'static; => text:1:13: expected a region, found a type";
 
 #[test]
 fn wrong_texts_are_told(rt: HostRuntime) -> Result<(), Fail> {

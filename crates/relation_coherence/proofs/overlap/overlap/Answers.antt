@@ -3,6 +3,7 @@ use Rattle.std.proofs.Common.{refl, sym, subst}
 use Rattle.relation_terms.specs.Interning.{Sorted}
 use Rattle.relation_terms.proofs.Stays.{extends_on, knows_args, knows_param_env}
 use Rattle.relation_semantics.specs.Goals.{goals_of}
+use Rattle.relation_semantics.proofs.Registered.{goals_known}
 use Rattle.relation_semantics.proofs.Going.{later_itself, later_same, later_through}
 use Rattle.relation_coherence.specs.Headers.{header_tree}
 use Rattle.relation_coherence.proofs.BothOpened.{body_known}
@@ -154,6 +155,17 @@ returns-in_ok-header-in-Ok-clause-resolved g c =
     (state c.resolve_vars_if_possible.new.self) c.args.left c.args.right c.in_ok-lhs.lhs c.in_ok-lhs.rhs c.in_ok-header-in-Ok.header
     c.in_ok-lhs.ensures.opens c.in-Ok.ensures.leaves.grown c.in-Ok.ensures.leaves.store_sound
     c.in_ok-header-in-Ok.ensures.same_record c.in_ok-header-in-Ok.ensures.comes.1
+
+-- The interner knows what is answered.
+pub returns-in_ok-header-in-Ok-clause-known : goal.returns-in_ok-header-in-Ok-clause-known
+returns-in_ok-header-in-Ok-clause-known g c = (
+  c.in_ok-header-in-Ok.ensures.comes.0,
+  goals_known c.in_ok-header-in-Ok.ensures.grows.extends c.in-Ok.goals.items c.in-Ok.ensures.asks.goals.0,
+)
+
+pub returns-in-Err-Unrelated-clause-known : goal.returns-in-Err-Unrelated-clause-known
+returns-in-Err-Unrelated-clause-known g c =
+    rw c.in-Err-Unrelated.field-0-is at c.in-Err-Unrelated.ensures.fault.fault_known
 
 -- What was recorded stands at each exit, and what the interner knew.
 pub returns-then-not-bodies_may_unify-clause-later : goal.returns-then-not-bodies_may_unify-clause-later
