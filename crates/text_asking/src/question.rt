@@ -392,7 +392,10 @@ fn ask<I: SizedKeys>(ctx: &mut RefCtxt<I>, terms: &Ready<I>, question: &Question
             let names = ask_methods(ctx, terms, methods, of)?;
             Ok(Answer::Methods(names))
         }
-        QuestionKind::Solve { .. } => Err(Unasked::Memory),
+        QuestionKind::Solve { longer, shorter } => {
+            let solved = ask_regions(ctx, terms, longer, shorter)?;
+            Ok(Answer::Solved(solved))
+        }
         QuestionKind::One(first, second) => {
             let one = ask_one(ctx, first, second)?;
             Ok(Answer::Is(one))
@@ -400,10 +403,6 @@ fn ask<I: SizedKeys>(ctx: &mut RefCtxt<I>, terms: &Ready<I>, question: &Question
         QuestionKind::Binding(variable) => {
             let bound = ask_binding(ctx, variable)?;
             Ok(Answer::Binding(bound))
-        }
-        QuestionKind::Solve { longer, shorter } => {
-            let solved = ask_regions(ctx, terms, longer, shorter)?;
-            Ok(Answer::Solved(solved))
         }
     }
 }

@@ -10,7 +10,7 @@ use context_regions::{RecordedRegions, RegionOutlivesPredicate, Solved, is_fact,
 use relation_semantics::infer_ctxt::InferCtxtLike;
 use relation_terms::predicate::OutlivesPredicate;
 use relation_terms::terms::{GenericArgKind, Interner, Keys};
-use std::alloc::AllocError;
+use std::alloc::AllocFailed;
 use term_enums::OutOfMemory;
 
 /// A term outlives a region.
@@ -33,10 +33,10 @@ impl From<OutOfMemory> for NotSolved {
     }
 }
 
-impl From<AllocError> for NotSolved {
+impl<T: Drop> From<AllocFailed<T>> for NotSolved {
     ghost from_gives = { λ _ made. made ≡ NotSolved.Memory };
 
-    fn from(_: AllocError) -> NotSolved {
+    fn from(_: AllocFailed<T>) -> NotSolved {
         NotSolved::Memory
     }
 }
