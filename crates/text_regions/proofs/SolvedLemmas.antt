@@ -52,14 +52,12 @@ module _ {Key Id Name : Type 0} (c : Context Key Id Name) (facts : List (Outlive
       let there : Contains (region_pairs c.meaning values.items) p =
       (i, below, get_or-map (region_pair c.meaning) values.items i d p lt) in
       let o = least.only p.0 p.1 there in
-      let pairs = region_pairs c.meaning facts in
-      (
+      let pairs = region_pairs c.meaning facts in (
         mentioned_known pairs c.store p.0 h are_regions (o.0).mentioned,
         mentioned_known pairs c.store p.1 h are_regions (o.1).mentioned,
       )
   solved_known (Unmet longer shorter by) least unmet =
-      let pairs = region_pairs c.meaning facts in
-      (
+      let pairs = region_pairs c.meaning facts in (
         mentioned_known pairs c.store ((c.meaning).region longer) h are_regions (unmet.longer_given).mentioned,
         mentioned_known pairs c.store ((c.meaning).region shorter) h are_regions (unmet.shorter_given).mentioned,
       )

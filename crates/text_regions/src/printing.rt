@@ -77,9 +77,7 @@ fn write_constraint<C: HasVariables, W: Write>(
         ConstraintIn c.store (constraint_of c.meaning constraint.now) }
 {
     match constraint {
-        RegionConstraint::Eq(equal) => {
-            write_pair(ctx, texts, &equal.0, " == ", &equal.1, out)
-        }
+        RegionConstraint::Eq(equal) => { write_pair(ctx, texts, &equal.0, " == ", &equal.1, out) }
         RegionConstraint::Outlives(outlives) => match &outlives.0 {
             GenericArgKind::Lifetime(longer) => {
                 write_pair(ctx, texts, longer, ": ", &outlives.1, out)
@@ -133,7 +131,11 @@ fn write_values<C: HasVariables, W: Write>(
         write_region(ctx.cx(), texts, &value.1, out)?;
         last = Some(value.0);
     }
-    if values.is_empty() { Ok(()) } else { out.write_str("]") }
+    if values.is_empty() {
+        Ok(())
+    } else {
+        out.write_str("]")
+    }
 }
 
 /// Writes what was answered: `met; '?0=['a, 'b]`, of each variable the given regions that it has to outlive, if any; or
