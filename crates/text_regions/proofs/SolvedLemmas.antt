@@ -44,7 +44,7 @@ module _ {Key Id Name : Type 0} (c : Context Key Id Name) (facts : List (Outlive
       (λ i d lt. ((all i d lt).longer_in, (all i d lt).shorter_in))
 
   pub solved_known : (s : Solved Key) → IfValued c facts s → IfUnmet c facts s → KnowsSolved c.meaning s
-  solved_known (Met values) least unmet i d lt =
+  solved_known (Met values) least unmet = λ i d lt.
       let v = get_or values.items i d in
       let p = region_pair c.meaning v in
       let below : i < length (region_pairs c.meaning values.items) =

@@ -1,5 +1,5 @@
 //! What is stated of regions becomes facts, and the constraints of a context are solved where these hold.
-ghost use Rattle.std.specs.Prelude.{◌≡◌, All, IfSome, IfOk};
+ghost use Rattle.std.specs.Prelude.{◌≡◌, [], ◌∷◌, All, IfSome, IfOk};
 ghost use Rattle.relation_semantics.specs.ContextCalls.{Grows};
 ghost use Rattle.context_regions.specs.Solving.{IsFactIn, IfMet, IfValued, IfUnmet};
 ghost use Rattle.text_regions.specs.Facts.{IsStated, facts_of, fact_of};

@@ -1,5 +1,5 @@
 //! How what was solved is written.
-ghost use Rattle.std.specs.Prelude.{IsTrue, All};
+ghost use Rattle.std.specs.Prelude.{◌≡◌, IsTrue, IfSome, Some, slice_get, All};
 ghost use Rattle.relation_terms.specs.Trees.{known};
 ghost use Rattle.relation_semantics.specs.Stores.{ConstraintIn};
 ghost use Rattle.relation_semantics.specs.Constraints.{constraint_of};
@@ -88,6 +88,19 @@ fn write_constraint<C: HasVariables, W: Write>(
     }
 }
 
+// The constraint of that number.
+fn constraint_at<X: Copy>(
+    constraints: &[RegionConstraint<X>],
+    number: usize,
+) -> Option<RegionConstraint<X>>
+    ensures { IfSome result (λ constraint. slice_get constraints.now number ≡ Some constraint) }
+{
+    match constraints.get(number) {
+        Some(constraint) => Some(*constraint),
+        None => None,
+    }
+}
+
 // Writes the constraints of these numbers.
 fn write_by<C: RecordedRegions + HasVariables, W: Write>(
     ctx: &C,
@@ -100,9 +113,9 @@ fn write_by<C: RecordedRegions + HasVariables, W: Write>(
     let constraints = ctx.region_constraints();
     let mut any = false;
     for number in by {
-        if let Some(constraint) = constraints.get(*number) {
+        if let Some(constraint) = constraint_at(constraints, *number) {
             out.write_str(if any { ", " } else { ", by " })?;
-            write_constraint(ctx, texts, constraint, out)?;
+            write_constraint(ctx, texts, &constraint, out)?;
             any = true;
         }
     }
