@@ -7,9 +7,9 @@ use Rattle.relation_semantics.specs.Stores.{Constraint, ConstraintIn, IsSound, S
 
 -- A constraint that is read at a number is the context's.
 pub read_in : {Key : Type 0} (f : RegionConstraint Key → Constraint) (xs : List (RegionConstraint Key)) (st : Store)
-    {i : ℕ} (q : RegionConstraint Key) → map f xs ≡ st.constraints → IsSound st → slice_get xs i ≡ Some q →
+    (i : ℕ) (q : RegionConstraint Key) → map f xs ≡ st.constraints → IsSound st → slice_get xs i ≡ Some q →
     ConstraintIn st (f q)
-read_in f xs st {i = i} q e h is =
+read_in f xs st i q e h is =
     let lt : i < length xs = slice_get_within xs i q is in
     let below : i < length st.constraints =
     subst (λ l. i < length l) e (subst (λ n. i < n) (sym (length-map xs f)) lt) in

@@ -1,5 +1,5 @@
 -- What solving answers is of regions that the interner knows.
-use Rattle.std.proofs.Common.{◌≡◌, ℕ, ◌<◌, ◌⊎◌, inl, inr, List, [], length, get_or, sym, refl, subst, All, Contains, IsTrue, map}
+use Rattle.std.proofs.Common.{◌≡◌, ℕ, ◌<◌, ◌⊎◌, inl, inr, List, length, get_or, sym, refl, subst, All, Contains, IsTrue, map}
 use Rattle.std.proofs.lemmas.List.{get_or-map, length-map}
 use Rattle.std.proofs.lemmas.List.Elements.{All-map}
 use Rattle.relation_terms.specs.declared.predicate.regions.OutlivesPredicate.{OutlivesPredicate}
@@ -8,7 +8,7 @@ use Rattle.relation_terms.specs.Trees.{Tree, known}
 use Rattle.relation_semantics.specs.Stores.{Store, Constraint, outlives_constraint, equal_constraint}
 use Rattle.relation_semantics.specs.Stores.{ConstraintIn, IsRegionIn, IsSound}
 use Rattle.relation_semantics.specs.Contexts.{Context}
-use Rattle.context_regions.specs.Worlds.{static, IsOf, IsMentioned, is_static, by_constraint, by_fact}
+use Rattle.context_regions.specs.Worlds.{IsOf, IsMentioned, is_static, by_constraint, by_fact}
 use Rattle.context_regions.specs.Solving.{IsFactIn, IfValued, IfUnmet, region_pair, region_pairs}
 use Rattle.context_regions.specs.declared.solving.Solved.{Solved}
 use Rattle.context_regions.specs.declared.solving.Solved.TheVariants.{Met, Unmet}
