@@ -21,13 +21,9 @@ under_args : {Key Id Name : Type 0} (m : Meaning Key Id Name) (o : Option (List 
 under_args m (Some ks) t h = h
 under_args m None t h = absurd h
 
-pub header_known : {Key Id Name : Type 0} (m : Meaning Key Id Name) (b : Binder Key (TraitRef Key Id))
-    (h : Binder Key (ArgsKey Key)) → h.value ≡ (b.value).args → h.bound_vars ≡ b.bound_vars →
-    IsTrue (known (bound_tree m b)) → IsTrue (known (header_tree m h))
-header_known m b h e f k =
-    subst (λ x. IsTrue (known (under (m.bound_vars x) (m.args h.value)))) (sym f)
-    (subst (λ x. IsTrue (known (under (m.bound_vars b.bound_vars) (m.args x)))) (sym e)
-    (under_args m (m.bound_vars b.bound_vars) b.value k))
+pub header_known : {Key Id Name : Type 0} (m : Meaning Key Id Name) (b : Binder Key (TraitRef Key Id)) →
+    IsTrue (known (bound_tree m b)) → IsTrue (known (under (m.bound_vars b.bound_vars) (m.args (b.value).args)))
+header_known m b k = under_args m (m.bound_vars b.bound_vars) b.value k
 
 -- A known header stays known while the interner grows.
 pub header_later : {Key Id Name : Type 0} (m n : Meaning Key Id Name) → Extends m n → (h : Binder Key (ArgsKey Key)) →

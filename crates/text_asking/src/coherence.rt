@@ -23,7 +23,7 @@ use text_clauses::printing::write_trait_ref;
 use text_coherence::methods::{GenericMethod, find_methods};
 use text_coherence::overlapping::{OverlapResult, ask_overlap};
 use text_reading::naming::{Method, Parts};
-use text_terms::building::{ty_at, variables_at};
+use text_terms::building::variables_at;
 use text_terms::printing::{TextsOf, name_text};
 
 // The headers of two impls of a trait, and the environment in which it is asked whether they overlap.
@@ -145,12 +145,15 @@ fn method_of<I: Interner>(
     ensures sure { IfSome result (λ e. IsTrue (known ((I.meaning cx.new).ty e.of.value))) }
 {
     let name = terms.names.get(method.name)?;
-    let (value, _) = type_of(terms, method.ty)?;
+    let typed = type_of(terms, method.ty)?;
     let variables = variables_at(&*cx, terms.parts, terms.built, method.variables)?;
     let Ok(bound_vars) = cx.mk_bound_vars(&variables) else {
         return None;
     };
-    let of = Binder { value, bound_vars };
+    let of = Binder {
+        value: typed.0,
+        bound_vars,
+    };
     Some(GenericMethod { of, name: *name })
 }
 
@@ -176,6 +179,7 @@ fn methods_of<I: Interner>(
 }
 
 // The names of the methods of a range of a program's list that may be for a type.
+#[tactic(auto, using(variable_tables::proofs::Grows::lawful_grows))]
 pub(super) fn ask_methods<I: Interner>(
     ctx: &mut RefCtxt<I>,
     terms: &Ready<I>,

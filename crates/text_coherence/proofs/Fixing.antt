@@ -95,21 +95,21 @@ WentOn (Continue x) = Unit {0}
 WentOn (Break x) = ⊥
 
 -- What such a visitor has gone over to the end is fixed.
-pub walked_fixed : {V : Type 0} (d : ℕ) (v w : V) (t : Tree) (r : Flow) → WentOn r →
-    Walks (λ v d t w a. EntersFixed t a) d v t w r → Leaves IsFixedLeaf t
-walked_fixed d v x t r g (entered {w = w} i e o) =
-    fixed_parts t i (entered_at (is_fixed t) e) (walked_fixed d w x (parts_of t) r g o)
-walked_fixed d v w t r g (skipped i e) = absurd (never_skipped (is_fixed t) e)
-walked_fixed d v w t r g (stopped i e) = absurd g
-walked_fixed d v w (leaf l) r g (passed_leaf i) = passed_fixed l i
-walked_fixed d v w (node h ts) r g (passed i o) =
+pub walked_fixed : {V : Type 0} (d : ℕ) (v w : V) (t : Tree) (r : Flow) → Walks (λ v d t w a. EntersFixed t a) d v t w r →
+    WentOn r → Leaves IsFixedLeaf t
+walked_fixed d v x t r (entered {w = w} i e o) g =
+    fixed_parts t i (entered_at (is_fixed t) e) (walked_fixed d w x (parts_of t) r o g)
+walked_fixed d v w t r (skipped i e) g = absurd (never_skipped (is_fixed t) e)
+walked_fixed d v w t r (stopped i e) g = absurd g
+walked_fixed d v w (leaf l) r (passed_leaf i) g = passed_fixed l i
+walked_fixed d v w (node h ts) r (passed i o) g =
     let o' = order_of (node h ts) in
-    fixed_ordered o' ts (walked_fixed d v w (in_order o' ts) r g o)
-walked_fixed d v w (bind ks t) r g (in_binder o) = walked_fixed _ v w t r g o
-walked_fixed d v w nil r g no_part = tt
-walked_fixed d v w (cons t ts) r g (last_part o) = absurd g
-walked_fixed d v x (cons t ts) r g (next_part {w = w} o n) =
-    (walked_fixed d v w t (Continue tt) tt o, walked_fixed d w x ts r g n)
+    fixed_ordered o' ts (walked_fixed d v w (in_order o' ts) r o g)
+walked_fixed d v w (bind ks t) r (in_binder o) g = walked_fixed _ v w t r o g
+walked_fixed d v w nil r no_part g = tt
+walked_fixed d v w (cons t ts) r (last_part o) g = absurd g
+walked_fixed d v x (cons t ts) r (next_part {w = w} o n) g =
+    (walked_fixed d v w t (Continue tt) o tt, walked_fixed d w x ts r n g)
 
 -- No inference variable stands in what is fixed.
 no_variable : (l : Leaf) → IsFixedLeaf l → IsNoVariable l
@@ -150,7 +150,7 @@ named_atom (unstable_feature n) h = tt
 named_atom ambiguous h = tt
 
 named : (l : Leaf) → IsFixedLeaf l → IsNamed (λ i. i) (λ i. i) l
-named (variable k n) h = absurd (cc)
+named (variable k n) h = tt
 named (bound k d i) h = tt
 named (placeholder k u n) h = tt
 named (atom x) h = named_atom x h

@@ -34,7 +34,8 @@ fn refusal<C: HasVariables>(ctx: &C, header: &HeaderOf<C::Interner>) -> Option<W
     requires { KnowsHeader (C.state ctx.now) header.now }
     ensures { IfNone result (MayOverlap (C.state ctx.now) header.now) }
 {
-    if !are_fixed(ctx.cx(), &header.value) {
+    let cx = ctx.cx();
+    if !are_fixed(cx, &header.value) {
         return Some(WhyNot::Unfixed);
     }
     match may_relate(ctx, header) {
@@ -67,13 +68,17 @@ fn pair_refusal<C: HasVariables>(
     ensures fits { IfNone result (count ((C.state ctx.now).meaning.args left.now.value)
         ≡ count ((C.state ctx.now).meaning.args right.now.value)) }
 {
-    if !are_as_many(ctx.cx(), &left.value, &right.value) {
+    let cx = ctx.cx();
+    if !are_as_many(cx, &left.value, &right.value) {
         return Some(WhyNot::Lengths);
     }
-    match refusal(ctx, left) {
-        None => refusal(ctx, right),
-        Some(why) => Some(why),
+    if let Some(why) = refusal(ctx, left) {
+        return Some(why);
     }
+    if let Some(why) = refusal(ctx, right) {
+        return Some(why);
+    }
+    None
 }
 
 /// Whether two headers overlap in a context, and in what, as `overlap` tells. The interner knows both and the

@@ -165,7 +165,7 @@ returns-in_ok-header-in-Ok-clause-known g c = (
 
 pub returns-in-Err-Unrelated-clause-known : goal.returns-in-Err-Unrelated-clause-known
 returns-in-Err-Unrelated-clause-known g c =
-    rw c.in-Err-Unrelated.field-0-is at c.in-Err-Unrelated.ensures.fault.fault_known
+    rw c.in-Err-Unrelated.field-0-is (rw c.in-Err-Unrelated.field-0-is at c.in-Err-Unrelated.ensures.fault.fault_known)
 
 -- What was recorded stands at each exit, and what the interner knew.
 pub returns-then-not-bodies_may_unify-clause-later : goal.returns-then-not-bodies_may_unify-clause-later

@@ -12,7 +12,3 @@ returns-in-Ok-clause-lawful g c = lawful_grows c.methods_of.ensures.grown c.args
 
 pub returns-in-Err-clause-lawful : goal.returns-in-Err-clause-lawful
 returns-in-Err-clause-lawful g c = lawful_grows c.methods_of.ensures.grown c.args.ctx.now.inner c.requires.lawful
-
-pub returns-in_default-2-clause-lawful : goal.returns-in_default-2-clause-lawful
-returns-in_default-2-clause-lawful g c =
-    lawful_grows c.methods_of.ensures.grown c.args.ctx.now.inner c.requires.lawful

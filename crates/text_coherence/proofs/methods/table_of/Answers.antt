@@ -1,4 +1,4 @@
-use Rattle.std.proofs.Common.{refl, subst}
+use Rattle.std.proofs.Common.{subst}
 use Rattle.std.specs.List.{All}
 use Rattle.std.proofs.lemmas.List.{take_all}
 use Rattle.text_coherence.specs.Found.{Holds}
@@ -11,8 +11,8 @@ loop-method-preserved g c =
     let inv = c.loop-method.invariant in
     record {
       keyed = c.in_ok-insert.ensures.keyed inv.keyed;
-      so_far = held_more m _ _ c.loop-method.table c.insert.new.self c.args.methods.now c.loop-method.method-index _
-          c.in_ok-insert.ensures.ok c.loop-method-test.true refl refl inv.so_far;
+      so_far = held_more m c.method-item.result c.loop-method.table c.insert.new.self c.args.methods.now
+          c.loop-method.method-index c.in_ok-insert.ensures.ok c.method-item.is c.loop-method-test.true inv.so_far;
     }
 
 pub returns-clause-holds : goal.returns-clause-holds
