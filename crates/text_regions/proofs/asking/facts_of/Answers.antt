@@ -1,5 +1,5 @@
 -- One more fact.
-use Rattle.std.proofs.Common.{sym, subst, All}
+use Rattle.std.proofs.Common.{sym, subst}
 use Rattle.context_regions.specs.Solving.{IsFactIn}
 use Rattle.text_regions.specs.Facts.{IsStated}
 use Rattle.text_regions.proofs.FactLemmas.{facts_more, all_more}
