@@ -25,7 +25,8 @@ def questions(case):
     varied = headers.varied(case.right, 0)
     sized = headers.sized_variables(case.right, 0)
     asked = f"args {headers.args(case.left)} == {headers.args(varied)}"
-    return [asked, *headers.asks_sized(sized), *probes(universes(case))]
+    solves = regions.solves(case.more, regions.implied(case.left))
+    return [asked, *solves, *headers.asks_sized(sized), *probes(universes(case))]
 
 
 def universes(case):
@@ -46,10 +47,10 @@ def line(case, number):
 
 
 def expected(case, answers):
-    if answers[0].said == "ok" and headers.meets_unsized(answers):
+    related, *solved = answers[:3]
+    if related.said == "ok" and headers.meets_unsized([related, *answers[3:]]):
         return kinds.Expected(kinds.REFUSED, (kinds.SIZED,))
-    implied = regions.implied(case.left)
-    return kinds.body(answers[0], list(case.more), implied, lambda: probed(universes(case), answers))
+    return kinds.body(related, solved, lambda: probed(universes(case), answers))
 
 
 def observed(case, said):

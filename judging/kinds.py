@@ -24,19 +24,14 @@ def decided(check, answer, universes):
     return least if least == most else check(universes())
 
 
-def body(answer, facts, implied, universes):
-    """Says what rustc's check of a body makes of the constraints of an answer."""
+def body(answer, solved, universes):
+    """Says what rustc's check of a body makes of an answer, by what `solve` says with implied bounds, and without."""
     if answer.said != "ok":
         return Expected(REFUSED if answer.said == "err" else f"no answer: {answer.text}", ())
-
-    def checked(facts, has_least):
-        return decided(lambda it: regions.borrow_check(answer.regions, it, facts, has_least), answer, universes)
-
-    holds, by = checked(facts + implied, False), []
-    if checked(facts, False) != holds:
-        by.append(IMPLIED)
-    if checked(facts + implied, True) != holds:
-        by.append(LEAST)
+    holds, alone = (it.said == "met" for it in solved)
+    by = [IMPLIED] if alone != holds else []
+    if holds and not decided(lambda it: not regions.outlives_earlier(answer.regions, it), answer, universes):
+        return Expected(REFUSED, (*by, LEAST))
     return Expected(ACCEPTED if holds else REFUSED, tuple(by))
 
 

@@ -1,4 +1,5 @@
-"""Decides constraints of regions, as the compiler's check of bodies does, and its check of overlapping impls.
+"""Rules of the compiler's own on constraints of regions: of its check of bodies what `solve` doesn't say, and its check of
+overlapping impls.
 
 A constraint is a pair: the first outlives the second. Regions are those of the function (`'a`, `'static`),
 variables (`'?0`) and placeholders (`'!1.0`).
@@ -53,29 +54,14 @@ def universe_of(name, universes):
     return placed if placed is not None else universes.get(name, 0)
 
 
-def borrow_check(constraints, universes, facts, has_least):
-    """Says whether a body is accepted: what each region has to outlive is known to be so.
-
-    What has to outlive a placeholder that it can't name has to outlive `'static`. A placeholder outlives itself alone;
-    where no region is known to lie below all, it does not outlive a variable of an earlier universe either.
-    """
-    below, longer = reached(constraints), known(facts)
-    for one, all_below in list(below.items()):
-        named = [universe_of(it, universes) for it in (one, *all_below) if placeholder_universe(it) is None]
-        if placeholder_universe(one) is not None and has_least:
-            named = []
-        limit = min(named, default=None)
-        if limit is not None and any((placeholder_universe(it) or 0) > limit for it in (one, *all_below)):
-            constraints = [*constraints, (one, STATIC)]
-    for one, all_below in reached(constraints).items():
-        if placeholder_universe(one) is not None:
-            if any(not is_variable(it) for it in all_below):
-                return False
-        elif not is_variable(one) and any(
-            not is_variable(it) and placeholder_universe(it) is None and not longer(one, it) for it in all_below
-        ):
-            return False
-    return True
+def outlives_earlier(constraints, universes):
+    """Says whether a placeholder has to outlive a variable of an earlier universe: no region is known to lie below all."""
+    return any(
+        is_variable(it) and universe_of(it, universes) < placeholder_universe(one)
+        for one, all_below in reached(constraints).items()
+        if placeholder_universe(one) is not None
+        for it in all_below
+    )
 
 
 def leak_check(constraints, universes):
@@ -100,6 +86,12 @@ def implied(term):
             if outlived.data not in place.scope and not set(free) & set(place.scope):
                 found += [(it, outlived.data) for it in (*free, *leaves(inner, "param"))]
     return found
+
+
+def solves(facts, implied):
+    """Asks whether what was recorded of regions can hold, by facts and implied bounds, and by facts alone."""
+    more = [it for it in implied if it[0].startswith("'")]
+    return [f"then solve{spell_facts(it)}" for it in ([*facts, *more], facts)]
 
 
 def some_facts(maker):

@@ -28,7 +28,8 @@ def spelled(case, rust):
 
 def questions(case):
     left, right = spelled(case, False)
-    return [f"{left} <: {right}", *probes(universes(case))]
+    solves = regions.solves(case.more[1], regions.implied(case.left) + regions.implied(case.right))
+    return [f"{left} <: {right}", *solves, *probes(universes(case))]
 
 
 def universes(case):
@@ -42,8 +43,7 @@ def line(case, number):
 
 
 def expected(case, answers):
-    implied = regions.implied(case.left) + regions.implied(case.right)
-    return kinds.body(answers[0], list(case.more[1]), implied, lambda: probed(universes(case), answers))
+    return kinds.body(answers[0], answers[1:3], lambda: probed(universes(case), answers))
 
 
 def observed(case, said):

@@ -1,6 +1,8 @@
 -- What is solved of a problem is so of the regions of the context.
 use Rattle.std.proofs.Common.{◌≡◌, ℕ, ◌<◌, List, [], ◌∷◌, length, get_or, sym, ◌∙◌, refl, subst, arith, All, map}
+use Rattle.std.specs.Prelude.{IsPermutation}
 use Rattle.std.proofs.lemmas.List.{get_or_default, get_or-map, length-map}
+use Rattle.std.proofs.lemmas.List.Sorted.{Contains-permutation, IsPermutation-sym}
 use Rattle.relation_terms.specs.declared.predicate.regions.OutlivesPredicate.{OutlivesPredicate}
 use Rattle.relation_terms.specs.declared.terms.keys.RegionKey.{RegionKey}
 use Rattle.relation_terms.specs.Meaning.{Extends}
@@ -122,3 +124,12 @@ pub unmet_like : (facts : List (Tree × Tree)) (st : Store) (x x' y y' : Tree) (
 unmet_like facts st x x' y y' by by' e f same h =
     subst (λ u. IsUnmetBy facts st u y' by') (sym e)
     (subst (λ u. IsUnmetBy facts st x u by') (sym f) (subst (λ l. IsUnmetBy facts st x y l) (sym same) h))
+
+-- Values in another order.
+pub meets_sorted : (standings : List Standing) (asked known : Pairs) (values values' : List (ℕ × ℕ)) →
+    IsPermutation values values' → Meets standings asked known values → Meets standings asked known values'
+meets_sorted standings asked known values values' p h = record {
+  all_known = h.all_known;
+  each = λ a b v g d. Contains-permutation values values' (a, b) p (h.each a b v g d);
+  only = λ a b c. h.only a b (Contains-permutation values' values (a, b) (IsPermutation-sym values values' p) c);
+}

@@ -13,12 +13,12 @@ use Rattle.context_regions.specs.Worlds.{CannotName}
 use Rattle.context_regions.specs.Reading.{standing_in}
 
 -- No form over parts is a region.
-no_head : (h : Head) → Admits region_sort (head_sort h) → ⊥
+pub no_head : (h : Head) → Admits region_sort (head_sort h) → ⊥
 no_head (adt d) a = a
 no_head h a = a
 
 -- A variable of a region is a region variable.
-region_kind_is : (k : VarKind) (n : ℕ) → IsTerm region_sort (leaf (variable k n)) → k ≡ region_var
+pub region_kind_is : (k : VarKind) (n : ℕ) → IsTerm region_sort (leaf (variable k n)) → k ≡ region_var
 region_kind_is type_var n h = absurd h
 region_kind_is int_var n h = absurd h
 region_kind_is float_var n h = absurd h

@@ -2,6 +2,7 @@ pub mod AWorld
 pub mod Answered
 pub mod Constraints
 pub mod Decided
+pub mod FactLemmas
 pub mod Forms
 pub mod Found
 pub mod FreeRegions

@@ -1,15 +1,32 @@
 -- What solving answers, of the regions of a context.
-use Rattle.std.specs.Prelude.{List, map}
+use Rattle.std.specs.Prelude.{Bool, true, false, nat_lt, List, map}
 use Rattle.relation_terms.specs.declared.predicate.regions.OutlivesPredicate.{OutlivesPredicate}
 use Rattle.relation_terms.specs.declared.terms.keys.RegionKey.{RegionKey}
-use Rattle.relation_terms.specs.Heads.{region_var}
+use Rattle.relation_terms.specs.Heads.{Leaf, region_var, variable, bound, placeholder, atom, unknown}
 use Rattle.relation_terms.specs.Meaning.{Meaning}
-use Rattle.relation_terms.specs.Trees.{Tree}
+use Rattle.relation_terms.specs.Trees.{Tree, leaf, node, bind, nil, cons}
+use Rattle.relation_semantics.specs.Stores.{Store}
 use Rattle.relation_semantics.specs.Contexts.{Context, HasRegion}
 use Rattle.relation_semantics.specs.ContextCalls.{IsNotVariable}
 use Rattle.context_regions.specs.declared.solving.Solved.{Solved}
 use Rattle.context_regions.specs.declared.solving.Solved.TheVariants.{Met, Unmet}
 use Rattle.context_regions.specs.Solutions.{HasSolution, AreLeast, IsUnmetBy}
+
+-- A region of which nothing may be stated: a variable, what a binder outside binds, or a placeholder of a later universe
+-- than the current one.
+abbrev pub cannot_be_leaf : Store → Leaf → Bool
+cannot_be_leaf st (variable k n) = true
+cannot_be_leaf st (bound k d i) = true
+cannot_be_leaf st (placeholder k u n) = nat_lt st.universe u
+cannot_be_leaf st (atom x) = false
+cannot_be_leaf st unknown = true
+
+abbrev pub cannot_be_given : Store → Tree → Bool
+cannot_be_given st (leaf l) = cannot_be_leaf st l
+cannot_be_given st (node h ts) = true
+cannot_be_given st (bind ks t) = true
+cannot_be_given st nil = true
+cannot_be_given st (cons t ts) = true
 
 module _ {Key Id Name : Type 0} where
   -- What a predicate on two regions speaks of.

@@ -1,10 +1,11 @@
 //! Whether the regions of a context can be as it has recorded: a solver of region constraints.
 #![tactic(auto)]
 
+mod facts;
 mod numbering;
 mod reading;
-mod recorded;
 mod solving;
 
-pub use recorded::RecordedRegions;
+pub use facts::is_fact;
+pub use recorded_regions::RecordedRegions;
 pub use solving::{RegionOutlivesPredicate, Solved, solve};

@@ -7,7 +7,7 @@ ghost use Rattle.context_regions.specs.Solving.{IsFactIn, IfMet, IfValued, IfUnm
 
 use crate::numbering::Regions;
 use crate::reading::{NumberedPairs, number, read_constraints, read_facts};
-use crate::recorded::RecordedRegions;
+use recorded_regions::RecordedRegions;
 use relation_regions::Decision;
 use relation_semantics::infer_ctxt::InferCtxtLike;
 use relation_terms::predicate::OutlivesPredicate;
@@ -100,6 +100,9 @@ fn solve_given<C: RecordedRegions>(
     let standings = problem.regions.standings.as_slice();
     match relation_regions::solve(alloc, standings, &problem.asked.pairs, &problem.known.pairs)? {
         Decision::Met(values) => {
+            // So that those of one variable stand together.
+            let mut values = values;
+            values.sort_unstable();
             let values = problem.regions.regions_of(alloc, values.as_slice())?;
             Ok(Solved::Met(values))
         }

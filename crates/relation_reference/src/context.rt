@@ -11,6 +11,7 @@ mod memory;
 mod numbers;
 mod own_variables;
 mod reading;
+mod recorded_regions;
 mod recording;
 mod resolving;
 mod shallow;

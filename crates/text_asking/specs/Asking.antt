@@ -40,11 +40,13 @@ use Rattle.text_asking.specs.declared.question.Ready.{Ready}
 use Rattle.text_asking.specs.declared.question.Answer.{Answer}
 use Rattle.text_asking.specs.declared.question.Answer.TheVariants.{Related, Met, Walked, Components, Folded, Is}
 use Rattle.text_asking.specs.declared.question.Answer.TheVariants.{Assumed, Key as key, Pulls, Binding, Overlap, Methods}
+use Rattle.text_asking.specs.declared.question.Answer.TheVariants.{Solved}
 use Rattle.outlives_assumptions.specs.Assumptions.{IsKnown}
 use Rattle.text_asking.specs.Meets.{AllKnown}
 use Rattle.text_needs.specs.Needs.{Allows, Reaches, largest, need_at}
 use Rattle.text_elaboration.specs.Pulls.{KnowsPulled}
 use Rattle.text_asking.specs.Outlives.{KnowsComponents}
+use Rattle.text_regions.specs.Solved.{KnowsSolved}
 
 -- What relating takes: a term in which each binder binds by its list, and nothing that one outside it binds stands.
 pub record IsRelatable (t : Tree) : Type 0 where
@@ -170,6 +172,7 @@ KnowsAnswer m Knows (Is b) = Unit {0}
 KnowsAnswer m Knows (key k) = Unit {0}
 KnowsAnswer m Knows (Pulls ps) = All (KnowsPulled m) ps.items
 KnowsAnswer m Knows (Binding b) = IfSome b (λ a. IsTrue (known (arg_tree m a)))
+KnowsAnswer m Knows (Solved s) = KnowsSolved m s
 KnowsAnswer m Knows (Overlap of told) = KnowsOverlap m told
 KnowsAnswer m Knows (Methods names) = Unit {0}
 

@@ -34,6 +34,8 @@ pub enum NotAsked {
     Lengths,
     /// What the question comes to may be too deep for the stack.
     Depth,
+    /// It is stated of regions what can't be known of them.
+    Facts,
 }
 
 // The typing mode of that name, in which no opaque types are defined.
@@ -315,5 +317,8 @@ pub(super) fn write_not_asked<W: Write>(why: NotAsked, out: &mut W) -> fmt::Resu
         NotAsked::Variance => out.write_str("nothing is related at this variance"),
         NotAsked::Lengths => out.write_str("one list has more arguments than the other"),
         NotAsked::Depth => out.write_str("what it comes to may be too deep for the stack"),
+        NotAsked::Facts => out.write_str(
+            "a fact names no variable, nothing that is bound, and no placeholder of a later universe",
+        ),
     }
 }

@@ -19,6 +19,7 @@ mod outliving;
 pub mod printing;
 mod question;
 mod quick;
+mod regions;
 mod roots;
 pub mod sized_keys;
 mod visiting;

@@ -111,7 +111,7 @@ fn assumption_of<I: Interner>(
 }
 
 // The assumptions that terms outlive the regions at their places.
-fn assumptions_of<I: Interner>(
+pub(super) fn assumptions_of<I: Interner>(
     alloc: Global,
     terms: &[GenericArg<I>],
     regions: &[GenericArg<I>],

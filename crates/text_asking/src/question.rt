@@ -16,10 +16,12 @@ use crate::folding::{fold, puts_at};
 use crate::lists::ask_args_related;
 use crate::outliving::{ask_assumptions, ask_components};
 use crate::quick::{KeyOf, ask_args_may_unify, ask_key, ask_may_unify};
+use crate::regions::ask_regions;
 use crate::roots::{ask_binding, ask_one};
 use crate::sized_keys::SizedKeys;
 use crate::visiting::{Met, visit};
 use crate::walking::numbers_at;
+use context_regions::Solved;
 use relation_coherence::overlap::Overlap;
 use relation_folds::error::RelateFault;
 use relation_folds::visit::{has_escaping_bound_vars, has_non_region_infer, is_known_rigid};
@@ -70,7 +72,7 @@ pub(super) enum Unasked {
 
 // What is answered to a question.
 #[derive(Drop)]
-pub(super) enum Answer<R, K, X, D, N> {
+pub(super) enum Answer<R, K, X: Copy, D, N> {
     Related(R),
     Met(Met<X>),
     Walked(Vec<GenericArgKind<X>>),
@@ -81,6 +83,7 @@ pub(super) enum Answer<R, K, X, D, N> {
     Key(K),
     Pulls(Vec<Pulled<X, D>>),
     Binding(Option<GenericArgKind<X>>),
+    Solved(Solved<X>),
     // Of two impls of a trait.
     Overlap(TraitId<D>, Result<Overlap<X, D, N>, RelateFault<X, D, N>>),
     Methods(Vec<N>),
@@ -389,7 +392,10 @@ fn ask<I: SizedKeys>(ctx: &mut RefCtxt<I>, terms: &Ready<I>, question: &Question
             let names = ask_methods(ctx, terms, methods, of)?;
             Ok(Answer::Methods(names))
         }
-        QuestionKind::Solve { .. } => Err(Unasked::Memory),
+        QuestionKind::Solve { longer, shorter } => {
+            let solved = ask_regions(ctx, terms, longer, shorter)?;
+            Ok(Answer::Solved(solved))
+        }
         QuestionKind::One(first, second) => {
             let one = ask_one(ctx, first, second)?;
             Ok(Answer::Is(one))

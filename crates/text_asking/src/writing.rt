@@ -23,6 +23,7 @@ use relation_terms::terms::{GenericArg, Interner};
 use std::fmt::{self, Write};
 use text_coherence::overlapping::write_why_not;
 use text_elaboration::pulls::write_pulls;
+use text_regions::write_solved;
 use text_terms::printing::{TextsOf, write_arg};
 use type_relations::relate::solver_relating::RelateGoals;
 
@@ -97,6 +98,7 @@ fn write_given<I: Interner, W: Write>(
         Answer::Pulls(all) if asked.lowered => write_lowered(&ctx.interner, texts, all, out),
         Answer::Pulls(all) => write_pulls(&ctx.interner, texts, all, out),
         Answer::Binding(bound) => write_binding(&ctx.interner, texts, bound, out),
+        Answer::Solved(solved) => write_solved(ctx, texts, solved, out),
         Answer::Overlap(of, told) => {
             write_overlap(ctx, texts, *of, told, out)?;
             write_left(ctx, asked, out)

@@ -5,7 +5,7 @@ use Rattle.context_regions.specs.Numbering.{AreBelow, regions_at}
 use Rattle.context_regions.specs.Reading.{trees_of, numbered}
 use Rattle.context_regions.specs.Solving.{region_pairs}
 use Rattle.context_regions.proofs.Answered.{facts_speak, values_below, number_below, places_below}
-use Rattle.context_regions.proofs.Answered.{met_of, unmet_of, least_like, unmet_like}
+use Rattle.context_regions.proofs.Answered.{met_of, unmet_of, meets_sorted, least_like, unmet_like}
 use Rattle.context_regions.proofs.Numbers.{asked_pairs, known_pairs}
 use Rattle.context_regions.proofs.Decided.{has_solution, are_least, is_unmet}
 use Rattle.context_regions.proofs.solving.solve_given.Goals as goal
@@ -22,12 +22,14 @@ pub regions_of-requires : goal.regions_of-requires
 regions_of-requires g c =
     let m = g.C.InferCtxtLike.state c.args.ctx.now in
     let p = c.in_ok-problem.problem in
-    let meets = met_of p.regions.standings.items c.as_slice-standings.result.now p.asked.pairs p.known.pairs
+    let found = met_of p.regions.standings.items c.as_slice-standings.result.now p.asked.pairs p.known.pairs
     c.in_ok-values.field-0 c.in-Met.values c.as_slice-standings.ensures.value c.in-Met.is c.in_ok-values.ensures.met in
+    let meets = meets_sorted p.regions.standings.items p.asked.pairs p.known.pairs c.in-Met.values.items
+    c.sort_unstable.new.self.items c.sort_unstable.ensures.permutation found in
     subst (λ (l : List (ℕ × ℕ)). All (AreBelow (length p.regions.table)) l) (sym c.as_slice.ensures.value)
     (values_below (region_pairs m.meaning c.args.facts.now) m.store (m.meaning).region p.regions.table
-    p.regions.standings.items p.asked.pairs p.asked.asked_by.items p.known.pairs c.in-Met.values.items
-    c.in_ok-problem.ensures meets)
+    p.regions.standings.items p.asked.pairs p.asked.asked_by.items p.known.pairs
+    c.sort_unstable.new.self.items c.in_ok-problem.ensures meets)
 
 pub returns-in-Met-clause-met : goal.returns-in-Met-clause-met
 returns-in-Met-clause-met g c =
@@ -42,10 +44,12 @@ pub returns-in-Met-clause-least : goal.returns-in-Met-clause-least
 returns-in-Met-clause-least g c =
     let m = g.C.InferCtxtLike.state c.args.ctx.now in
     let p = c.in_ok-problem.problem in
-    let meets = met_of p.regions.standings.items c.as_slice-standings.result.now p.asked.pairs p.known.pairs
+    let found = met_of p.regions.standings.items c.as_slice-standings.result.now p.asked.pairs p.known.pairs
     c.in_ok-values.field-0 c.in-Met.values c.as_slice-standings.ensures.value c.in-Met.is c.in_ok-values.ensures.met in
+    let meets = meets_sorted p.regions.standings.items p.asked.pairs p.known.pairs c.in-Met.values.items
+    c.sort_unstable.new.self.items c.sort_unstable.ensures.permutation found in
     least_like (region_pairs m.meaning c.args.facts.now) m.store
-    (map (regions_at (trees_of m p.regions.table)) c.in-Met.values.items)
+    (map (regions_at (trees_of m p.regions.table)) c.sort_unstable.new.self.items)
     (region_pairs m.meaning c.in_ok-values-in-Met.values.items)
     (c.in_ok-values-in-Met.ensures (m.meaning).region ∙
     ap (λ (l : List (ℕ × ℕ)). map (regions_at (trees_of m p.regions.table)) l) c.as_slice.ensures.value)

@@ -1,4 +1,6 @@
 //! Contexts that show what they have recorded of regions.
+#![tactic(auto)]
+
 ghost use Rattle.std.specs.Prelude.{◌≡◌, map};
 ghost use Rattle.relation_semantics.specs.Constraints.{constraint_of};
 

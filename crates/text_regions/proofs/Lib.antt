@@ -1,0 +1,3 @@
+pub mod FactLemmas
+pub mod SolvedLemmas
+pub mod RecordedLemmas
