@@ -1,11 +1,13 @@
-//! The smallest of each that a user of these crates may copy: a visitor, a folder, an obligation. All is proved with the
-//! tests, and so once.
+//! The smallest of each that a user of these crates may copy: a visitor, a folder, an obligation, a table of methods. All
+//! is proved with the tests, and so once.
 #![tactic(auto)]
 
 #[cfg(test)]
 mod all;
 #[cfg(test)]
 pub mod folder;
+#[cfg(test)]
+mod methods;
 #[cfg(test)]
 pub mod obligation;
 #[cfg(test)]
