@@ -1,5 +1,5 @@
-//! The smallest of each that a user of these crates may copy: a visitor, a folder, an obligation, a table of methods. All
-//! is proved with the tests, and so once.
+//! The smallest of each that a user of these crates may copy: a visitor, a folder, an obligation, a table of methods, an
+//! overlap of impls. All is proved with the tests, and so once.
 #![tactic(auto)]
 
 #[cfg(test)]
@@ -10,5 +10,7 @@ pub mod folder;
 mod methods;
 #[cfg(test)]
 pub mod obligation;
+#[cfg(test)]
+pub mod overlapping;
 #[cfg(test)]
 pub mod visitor;

@@ -49,8 +49,10 @@ fn make_types<I: Interner>(
     let var = BoundVar(0);
     let param = cx.mk_ty(TyKind::Bound(DebruijnIndex(0), BoundTy { var, name }))?;
     let byte = cx.mk_ty(TyKind::Uint(UintTy::U8))?;
-    let one = cx.mk_bound_vars(&[BoundVariableKind::Ty(name)])?;
-    let none = cx.mk_bound_vars(&[])?;
+    let mut variables = Vec::new(cx.alloc());
+    let none = cx.mk_bound_vars(&variables)?;
+    variables.push(BoundVariableKind::Ty(name))?;
+    let one = cx.mk_bound_vars(&variables)?;
     let every = Binder {
         value: param,
         bound_vars: one,
