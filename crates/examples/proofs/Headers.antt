@@ -3,11 +3,15 @@ use Rattle.std.proofs.Common.{◌≡◌, ℕ, refl, sym, ap, ap₂, ◌∙◌, s
 use Rattle.std.specs.Cmp.Derive.{both_true}
 use Rattle.term_enums.specs.declared.UintTy.{UintTy}
 use Rattle.relation_terms.specs.declared.terms.binder.Binder.{Binder}
+use Rattle.relation_terms.specs.declared.terms.binder.BoundVariableKind.{BoundVariableKind}
+use Rattle.relation_terms.specs.declared.terms.binder.BoundVariableKind.TheVariants.{Ty as TyBound}
+use Rattle.relation_terms.specs.declared.terms.generic_arg.GenericArgKind.{GenericArgKind}
+use Rattle.relation_terms.specs.declared.terms.generic_arg.GenericArgKind.TheVariants.{Ty as TyArg}
 use Rattle.relation_terms.specs.declared.terms.keys.ArgsKey.{ArgsKey}
 use Rattle.relation_terms.specs.declared.terms.keys.TyKey.{TyKey}
 use Rattle.relation_terms.specs.Heads.{BoundKind, bound_kind, type_kind, bound, atom, uint_type, slice}
-use Rattle.relation_terms.specs.Trees.{Tree, leaf, node, bind, nil, cons, known, count, Leaves}
-use Rattle.relation_terms.specs.Meaning.{Meaning, Extends, under}
+use Rattle.relation_terms.specs.Trees.{Tree, leaf, node, bind, nil, cons, known, count, Leaves, list_tree}
+use Rattle.relation_terms.specs.Meaning.{Meaning, Extends, under, arg_tree, bound_kinds}
 use Rattle.fast_reject.specs.Instances.{IsNoVariable, IsNamed}
 use Rattle.relation_semantics.specs.Bound.{IsWellBound}
 use Rattle.relation_semantics.specs.Contexts.{Context}
@@ -41,35 +45,44 @@ of_number w = record {
   named = (tt, tt);
 }
 
-pub plain_bound : (k n : ℕ) (t u : Tree) → t ≡ node slice (cons u nil) → u ≡ leaf (bound (bound_kind type_kind n) 0 0) →
-    IsPlain (bound_kind type_kind k ∷ []) t
-plain_bound k n t u e f = subst (IsPlain (bound_kind type_kind k ∷ [])) (sym (e ∙ ap (λ z. node slice (cons z nil)) f))
-    (of_bound k n)
-
-pub plain_number : (w : UintTy) (t u : Tree) → t ≡ node slice (cons u nil) → u ≡ leaf (atom (uint_type w)) → IsPlain [] t
-plain_number w t u e f = subst (IsPlain []) (sym (e ∙ ap (λ z. node slice (cons z nil)) f)) (of_number w)
-
 -- The body of a header.
 body_is : (o : Option (List BoundKind)) (t u : Tree) (ks : List BoundKind) → under o t ≡ bind ks u → t ≡ u
 body_is (Some ls) t u ks e = cc
 body_is None t u ks e = absurd cc
 
 module _ {Key Id Name : Type 0} where
-  -- A list of one known type is known.
-  pub type_known : (m : Meaning Key Id Name) (t : TyKey Key) → IsTrue (known (m.ty t)) →
-      IsTrue (known (cons (m.ty t) nil))
-  type_known m t k = both_true k refl
+  -- The type of slices of another, under a binder.
+  plain_slices : (ks ls : List BoundKind) (t u v : Tree) → ks ≡ ls → t ≡ node slice (cons u nil) → u ≡ v →
+      IsPlain ls (node slice (cons v nil)) → IsPlain ks t
+  plain_slices ks ls t u v b e f p =
+      subst (λ z. IsPlain z t) (sym b) (subst (IsPlain ls) (sym (e ∙ ap (λ z. node slice (cons z nil)) f)) p)
 
-  -- A header that was made of a list of what it binds, and then of a type.
-  pub header_made : (m n o : Meaning Key Id Name) (h : Binder Key (ArgsKey Key)) (ks : List BoundKind) (t : TyKey Key) →
-      Extends m n → Extends n o → IsPlain ks (m.ty t) → n.bound_vars h.bound_vars ≡ Some ks →
-      o.args h.value ≡ cons (n.ty t) nil → IsPlainHeader o h
-  header_made m n o h ks t e f p b a = record {
+  pub plain_bound : (m : Meaning Key Id Name) (name : Name) (bs : List (BoundVariableKind Name)) (n : ℕ) (t u : Tree) →
+      bs ≡ TyBound name ∷ [] → t ≡ node slice (cons u nil) → u ≡ leaf (bound (bound_kind type_kind n) 0 0) →
+      IsPlain (bound_kinds m bs) t
+  plain_bound m name bs n t u b e f =
+      plain_slices (bound_kinds m bs) (bound_kind type_kind (m.name name) ∷ []) t u _ (ap (bound_kinds m) b) e f
+      (of_bound (m.name name) n)
+
+  pub plain_number : (m : Meaning Key Id Name) (bs : List (BoundVariableKind Name)) (w : UintTy) (t u : Tree) → bs ≡ [] →
+      t ≡ node slice (cons u nil) → u ≡ leaf (atom (uint_type w)) → IsPlain (bound_kinds m bs) t
+  plain_number m bs w t u b e f = plain_slices (bound_kinds m bs) [] t u _ (ap (bound_kinds m) b) e f (of_number w)
+
+  -- A list of one known type is known.
+  pub args_known : (m : Meaning Key Id Name) (t : TyKey Key) (list : List (GenericArgKind Key)) → list ≡ TyArg t ∷ [] →
+      IsTrue (known (m.ty t)) → IsTrue (known (list_tree (arg_tree m) list))
+  args_known m t list e k = subst (λ z. IsTrue (known (list_tree (arg_tree m) z))) (sym e) (both_true k refl)
+
+  -- A header that was made of a list of what it binds, and then of a list of one type.
+  pub header_made : (m n o : Meaning Key Id Name) (h : Binder Key (ArgsKey Key)) (ks : List BoundKind) (t : TyKey Key)
+      (list : List (GenericArgKind Key)) → list ≡ TyArg t ∷ [] → Extends m n → Extends n o → IsPlain ks (m.ty t) →
+      n.bound_vars h.bound_vars ≡ Some ks → o.args h.value ≡ list_tree (arg_tree n) list → IsPlainHeader o h
+  header_made m n o h ks t list one e f p b a = record {
     binds = ks;
     argument = m.ty t;
     plain = p;
-    tree_is = ap₂ under (f.bound_vars h.bound_vars (subst IsSome (sym b) tt) ∙ b)
-        (a ∙ ap (λ z. cons z nil) (e.ty t p.is_known));
+    tree_is = ap₂ under (f.bound_vars h.bound_vars (subst IsSome (sym b) refl) ∙ b)
+        (a ∙ ap (list_tree (arg_tree n)) one ∙ ap (λ z. cons z nil) (e.ty t p.is_known));
   }
 
   tree_known : (m : Meaning Key Id Name) (h : Binder Key (ArgsKey Key)) → IsPlainHeader m h →

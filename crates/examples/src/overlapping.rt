@@ -69,10 +69,11 @@ pub fn common_header<C: InferCtxtLike>(
     requires right { IsPlainHeader (C.state ctx.old).meaning right }
 {
     let span = ctx.cx().dummy_span();
-    match overlap(ctx, param_env, left, right, span)? {
-        Overlap::Apart(_) => Ok(None),
-        Overlap::Meets { header, .. } => Ok(Some(header)),
-    }
+    let answer = overlap(ctx, param_env, left, right, span)?;
+    Ok(match &answer {
+        Overlap::Apart(_) => None,
+        Overlap::Meets { header, .. } => Some(*header),
+    })
 }
 
 // Whether an impl for all slices and one for slices of bytes have just these in common.
