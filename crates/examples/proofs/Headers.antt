@@ -45,18 +45,18 @@ of_number w = record {
   named = (tt, tt);
 }
 
+-- The type of slices of another, under a binder.
+plain_slices : (ks ls : List BoundKind) (t u v : Tree) → ks ≡ ls → t ≡ node slice (cons u nil) → u ≡ v →
+    IsPlain ls (node slice (cons v nil)) → IsPlain ks t
+plain_slices ks ls t u v b e f p =
+    subst (λ z. IsPlain z t) (sym b) (subst (IsPlain ls) (sym (e ∙ ap (λ z. node slice (cons z nil)) f)) p)
+
 -- The body of a header.
 body_is : (o : Option (List BoundKind)) (t u : Tree) (ks : List BoundKind) → under o t ≡ bind ks u → t ≡ u
 body_is (Some ls) t u ks e = cc
 body_is None t u ks e = absurd cc
 
 module _ {Key Id Name : Type 0} where
-  -- The type of slices of another, under a binder.
-  plain_slices : (ks ls : List BoundKind) (t u v : Tree) → ks ≡ ls → t ≡ node slice (cons u nil) → u ≡ v →
-      IsPlain ls (node slice (cons v nil)) → IsPlain ks t
-  plain_slices ks ls t u v b e f p =
-      subst (λ z. IsPlain z t) (sym b) (subst (IsPlain ls) (sym (e ∙ ap (λ z. node slice (cons z nil)) f)) p)
-
   pub plain_bound : (m : Meaning Key Id Name) (name : Name) (bs : List (BoundVariableKind Name)) (n : ℕ) (t u : Tree) →
       bs ≡ TyBound name ∷ [] → t ≡ node slice (cons u nil) → u ≡ leaf (bound (bound_kind type_kind n) 0 0) →
       IsPlain (bound_kinds m bs) t

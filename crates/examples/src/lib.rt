@@ -11,6 +11,6 @@ mod methods;
 #[cfg(test)]
 pub mod obligation;
 #[cfg(test)]
-pub mod overlapping;
+mod overlapping;
 #[cfg(test)]
 pub mod visitor;

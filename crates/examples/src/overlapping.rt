@@ -15,8 +15,8 @@ use relation_terms::terms::{
 };
 use std::test::Fail;
 
-/// The header of an impl for a type, generic over what is bound. What is asked of both is what each context takes.
-pub fn make_header<I: Interner>(
+// The header of an impl for a type, generic over what is bound.
+fn make_header<I: Interner>(
     cx: &mut I,
     bound: &[BoundVariable<I>],
     ty: Ty<I>,
@@ -56,8 +56,8 @@ fn header_of_bytes<I: Interner>(cx: &mut I) -> Result<HeaderOf<I>, OutOfMemory>
     make_header(cx, &bound, slice)
 }
 
-/// The most general header that two impls have in common, if they overlap.
-pub fn common_header<C: InferCtxtLike>(
+// The most general header that two impls have in common, if they overlap.
+fn common_header<C: InferCtxtLike>(
     ctx: &mut C,
     param_env: ParamEnv<C::Interner>,
     left: HeaderOf<C::Interner>,
