@@ -19,11 +19,11 @@ use Rattle.relation_semantics.specs.Stores.{IsTermIn, InContext}
 use Rattle.relation_coherence.specs.Headers.{header_tree, KnowsHeader, TakesHeader, HasHeader, AreOfOneLength}
 use Rattle.relation_coherence.specs.Headers.{IsClosedHeader, AgreeOnNames}
 use Rattle.relation_coherence.proofs.BothOpened.{header_stays}
-use Rattle.examples.specs.Headers.{header_of, IsPlain, IsPlainHeader}
+use Rattle.examples.specs.Headers.{IsPlain, IsPlainHeader}
 
 -- The type of slices of what the only place of a binder binds, by any name, and that of slices of numbers.
-
-of_bound : (k n : ℕ) → IsPlain (bound_kind type_kind k ∷ []) (node slice (cons (leaf (bound (bound_kind type_kind n) 0 0)) nil))
+of_bound : (k n : ℕ) →
+    IsPlain (bound_kind type_kind k ∷ []) (node slice (cons (leaf (bound (bound_kind type_kind n) 0 0)) nil))
 unfolding IsTermIn InContext
 of_bound k n = record {
   is_known = refl;
