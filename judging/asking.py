@@ -9,7 +9,7 @@ from judging.terms import ask_prelude
 MOST_BYTES = 900_000
 SECONDS = 120
 
-# What an answer says: `ok`, `err` and its error, or another first word; constraints of regions, and bindings.
+# What an answer says: `ok`, `err` and its error, `meets` or another first word; constraints of regions, and bindings.
 Answer = collections.namedtuple("Answer", "text said regions bound")
 
 
@@ -60,9 +60,9 @@ def split_list(text):
 
 
 def read(text):
-    """Reads an answer: its constraints and its bindings where it is `ok`."""
+    """Reads an answer: its constraints where it is `ok` or `meets`, and its bindings where it is `ok`."""
     said = re.match("[a-z ]*", text)[0].strip()
-    regions = re.search(r"; regions=\[([^\]]*)\]", text) if said == "ok" else None
+    regions = re.search(r"; regions=\[([^\]]*)\]", text) if said in ("ok", "meets") else None
     bound = re.search(r"; bound=\[(.*)\]$", text) if said == "ok" else None
     constraints = [constraint(it) for it in regions[1].split(", ")] if regions else []
     bindings = [it.split("=", 1) for it in split_list(bound[1])] if bound else []

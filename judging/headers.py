@@ -18,6 +18,8 @@ from judging.terms import (
 
 # The parameters that are `?Sized` where they may be.
 UNSIZED = ("U", "V")
+# The traits of headers in a text of questions, by how many types a header has.
+TRAITS_OF = {1: "Alone", 2: "Over"}
 
 
 def make(maker):
@@ -69,24 +71,53 @@ def exchanged(maker, term):
     return new if is_valid_type(new, REGIONS, False) else term
 
 
+def aliased(maker, header):
+    """Puts what a parameter declares, as a trait's type, at a place; the parameter stands elsewhere too."""
+    params = leaves(header, "param")
+    if not params:
+        return header
+    part = maker.rng.randrange(len(header.parts))
+    places_of = [it for it in places(header.parts[part], REGIONS, False) if it.term.form not in ("region", "const")]
+    new = put(header, (part, *maker.rng.choice(places_of).path), Term("alias", maker.rng.choice(params), ()))
+    return new if is_header(new) else header
+
+
+def has_alias(header):
+    return bool(leaves(header, "alias"))
+
+
 def may_be_unsized(header):
     """Gives the parameters that are declared `?Sized`: where they stand, no type has to be sized."""
     wants = {it.term.data for it in places(header, REGIONS, False) if it.term.form == "param" and it.sized}
     return [it for it in UNSIZED if it not in wants]
 
 
+def named(header):
+    """Gives the regions, the parameters and the constants that a header uses, in the order of its list."""
+    regions = sorted(it for it in free_regions(header) if it != STATIC)
+    consts = sorted(it for it in leaves(header, "const") if it in CONSTS)
+    return regions, sorted(leaves(header, "param")), consts
+
+
 def generics(header):
     """Declares what a header uses, as an impl does."""
-    regions = sorted(it for it in free_regions(header) if it != STATIC)
-    unsized = may_be_unsized(header)
-    params = [f"{it}: ?Sized" if it in unsized else it for it in sorted(leaves(header, "param"))]
-    consts = [f"const {it}: usize" for it in sorted(leaves(header, "const")) if it in CONSTS]
-    return f"<{', '.join([*regions, *params, *consts])}>"
+    regions, params, consts = named(header)
+    unsized, bound = may_be_unsized(header), leaves(header, "alias")
+    bounds = [[name for name, has in (("?Sized", unsized), ("Source", bound)) if it in has] for it in params]
+    params = [f"{it}: {' + '.join(some)}" if some else it for it, some in zip(params, bounds)]
+    return f"<{', '.join([*regions, *params, *(f'const {it}: usize' for it in consts)])}>"
 
 
-def of_trait(trait, header):
+def impl_of(header, what):
+    """Writes an impl's head as a text of questions has it."""
+    regions, params, consts = named(header)
+    names = [*regions, *params, *(f"const {it}" for it in consts)]
+    return f"impl<{', '.join(names)}> {what}" if names else f"impl {what}"
+
+
+def of_trait(trait, header, rust=True):
     """Writes which trait is implemented for what."""
-    self_type, *args = (spell(it, True) for it in header.parts)
+    self_type, *args = (spell(it, rust) for it in header.parts)
     return f"{trait}<{args[0]}> for {self_type}" if args else f"{trait} for {self_type}"
 
 
@@ -94,11 +125,11 @@ def trait_of(trait, header):
     return f"trait {trait}<X: ?Sized> {{}}" if len(header.parts) > 1 else f"trait {trait} {{}}"
 
 
-def varied(header, after):
-    """Puts variables for the parameters of a header, those behind so many of each sort."""
+def varied(header, after, after_regions=0):
+    """Puts variables for the parameters of a header, those behind so many of each sort; of regions for those it uses."""
     names = {it: f"?{after + at}" for at, it in enumerate(PARAMS)}
     names |= {it: f"?c{after + at}" for at, it in enumerate(CONSTS)}
-    names |= {it: f"'?{after + at}" for at, it in enumerate(REGIONS)}
+    names |= {it: f"'?{after_regions + at}" for at, it in enumerate(named(header)[0])}
 
     def change(leaf):
         if leaf.data not in names or leaf.form not in ("param", "const", "region"):
@@ -139,7 +170,8 @@ def is_slice(text):
 
 
 def is_header(header):
-    return header.form == "list" and all(is_valid_type(it, REGIONS, False) for it in header.parts)
+    bound = set(leaves(header, "alias")) <= set(leaves(header, "param"))
+    return header.form == "list" and bound and all(is_valid_type(it, REGIONS, False) for it in header.parts)
 
 
 def asks_sized(variables):

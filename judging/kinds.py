@@ -10,7 +10,7 @@ Expected = collections.namedtuple("Expected", "verdict by")
 
 ACCEPTED, REFUSED = "accepted", "refused"
 # What rustc adds and `ask` has not.
-IMPLIED, SIZED, LEAST, LEAK = "implied bounds", "Sized", "no least region", "a lint"
+IMPLIED, SIZED, LEAST, LEAK, BOUND = "implied bounds", "Sized", "no least region", "a lint", "bounds"
 # What a quick test tells apart.
 TEST = "the quick test"
 # Why rustc says nothing of a pair, which is counted and not judged.

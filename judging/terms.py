@@ -64,6 +64,7 @@ def ask_prelude():
             lines.append(f"type {name}::{declared};")
     lines += [f"auto trait {name};" for name in AUTOS]
     lines.append(f"param {', '.join([*REGIONS, *PARAMS, *(f'const {it}' for it in CONSTS)])};")
+    lines += ["trait Alone;", "trait Over<X>;"]
     return "\n".join([*lines, f"variables {PROBE};", ""])
 
 
@@ -98,7 +99,7 @@ def is_bound_part(term, at):
 
 
 def is_sized(term):
-    return term.form not in ("slice", "dyn") and term.data != "str"
+    return term.form not in ("slice", "dyn", "alias") and term.data != "str"
 
 
 def places(term, scope, sized=True, path=()):
@@ -187,6 +188,8 @@ def spell(term, rust):
     parts = [spell(it, rust) for it in term.parts]
     if term.form in ("plain", "param", "var", "region", "const"):
         return term.data
+    if term.form == "alias":
+        return f"<{term.data} as Source>::Out"
     if term.form == "tuple":
         return f"({parts[0]},)" if len(parts) == 1 else f"({', '.join(parts)})"
     if term.form == "array":

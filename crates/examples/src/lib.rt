@@ -1,5 +1,5 @@
-//! The smallest of each that a user of these crates may copy: a visitor, a folder, an obligation. All is proved with the
-//! tests, and so once.
+//! The smallest of each that a user of these crates may copy: a visitor, a folder, an obligation, a table of methods, an
+//! overlap of impls. All is proved with the tests, and so once.
 #![tactic(auto)]
 
 #[cfg(test)]
@@ -7,6 +7,10 @@ mod all;
 #[cfg(test)]
 pub mod folder;
 #[cfg(test)]
+mod methods;
+#[cfg(test)]
 pub mod obligation;
+#[cfg(test)]
+mod overlapping;
 #[cfg(test)]
 pub mod visitor;
