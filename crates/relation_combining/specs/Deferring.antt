@@ -18,7 +18,7 @@ use Rattle.relation_combining.specs.declared.deferring.Deferring.TheVariants.{To
 abbrev pub IsVariable : Tree → Type 0
 IsVariable t = (k : VarKind) × (n : ℕ) × (t ≡ leaf (variable k n))
 
--- A type is neither an error, a variable nor an alias; or two are.
+-- A type is neither an error, nor a variable, nor an alias; the same of two types.
 abbrev pub IsOrdinary : Tree → Type 0
 IsOrdinary t = (IsError t → ⊥) × (IsVariable t → ⊥) × (IsAlias t → ⊥)
 

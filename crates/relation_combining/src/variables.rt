@@ -73,8 +73,8 @@ fn is_ordinary<Infcx: InferCtxtLike>(infcx: &Infcx, ty: &Ty<Infcx::Interner>) ->
     }
 }
 
-/// Whether two types of a context are ordinary: neither errors, nor variables, nor aliases. Of no such pair anything is
-/// bound, recorded or registered before their parts are related. Upstream it is the last case of `super_combine_tys`.
+/// Whether two types of a context are ordinary: neither errors, nor variables, nor aliases. Such a pair is left to its
+/// parts: nothing is bound, recorded or registered before. Upstream it is the last case of `super_combine_tys`.
 pub fn are_ordinary<Infcx: InferCtxtLike>(
     infcx: &Infcx,
     a: &Ty<Infcx::Interner>,
