@@ -7,6 +7,7 @@ pub mod Constraints
 pub mod Disagreeing
 pub mod EmittedGoals
 pub mod NewRelation
+pub mod Ordinary
 pub mod PlainForms
 pub mod PlainTerms
 pub mod Recalling

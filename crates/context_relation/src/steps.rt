@@ -22,7 +22,7 @@ use crate::relation::SolverRelating;
 use relation_combining::combine::{
     PredicateEmittingRelation, combine_ty_args, super_combine_consts, super_combine_tys,
 };
-use relation_combining::variables::{have_no_variable, ty_var};
+use relation_combining::variables::{are_ordinary, have_no_variable, ty_var};
 use relation_folds::error::RelateResult;
 use relation_folds::fold::TypeFoldable;
 use relation_folds::visit::TypeVisitable;
@@ -80,7 +80,8 @@ impl<'a, Infcx: InferCtxtLike> SolverRelating<'a, Infcx> {
     }
 
     // What comes of two types as they are read: of a pair that is remembered the left one, and nothing is done; of
-    // another what combining says. Where that is an answer the pair is remembered.
+    // another what combining says, which leaves ordinary types to their parts. Where that is an answer the pair is
+    // remembered.
     fn step_read(
         &mut self,
         a: &Ty<Infcx::Interner>,
@@ -97,6 +98,9 @@ impl<'a, Infcx: InferCtxtLike> SolverRelating<'a, Infcx> {
     {
         if self.was_related(a, b) {
             return Ok(Step::Done(*a));
+        }
+        if are_ordinary(&*self.infcx, a, b) {
+            return Ok(Step::Parts { a: *a, b: *b });
         }
         match self.combine_tys(a, b)? {
             Step::Done(answer) => {

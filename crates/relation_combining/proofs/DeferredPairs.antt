@@ -20,10 +20,18 @@ use Rattle.relation_semantics.specs.Parts.{IsFormedConst}
 use Rattle.relation_semantics.specs.Relation.{IsError, IsAlias}
 use Rattle.relation_semantics.specs.Settings.{Settings, DefersAliases, LeavesOpaque}
 use Rattle.relation_semantics.proofs.Deferring.{opaque_is_alias, beside_is_opaque}
-use Rattle.relation_combining.specs.Deferring.{IsVariable, StandsAs, LeftAs}
+use Rattle.relation_combining.specs.Deferring.{IsVariable, IsOrdinary, StandsAs, LeftAs}
 use Rattle.relation_combining.specs.declared.deferring.Standing.{Standing}
 use Rattle.relation_combining.specs.declared.deferring.Standing.TheVariants.{Error, Variable, Opaque, Alias, Other}
 use Rattle.relation_combining.specs.declared.deferring.Deferring.TheVariants.{ToNone}
+
+-- An ordinary type stands as nothing else.
+pub other_alone : (w : Standing) (t : Tree) → StandsAs w t → IsOrdinary t → w ≡ Other
+other_alone Error t s o = absurd (o.0 s)
+other_alone Variable t s o = absurd (o.1 s)
+other_alone Opaque t s o = absurd (o.2 (opaque_is_alias t s))
+other_alone Alias t s o = absurd (o.2 s.0)
+other_alone Other t s o = refl
 
 -- A form that is neither an error, a variable nor an alias.
 no_variable_tree : (t : Tree) → ((k : _) (n : ℕ) → t ≡ leaf (variable k n) → ⊥) → IsVariable t → ⊥

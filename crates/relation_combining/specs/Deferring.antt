@@ -1,8 +1,10 @@
 -- What a type is to relating before its parts are looked at, and which pairs are left to goals.
 use Rattle.std.specs.Prelude.{◌≡◌, ◌⊎◌, ℕ}
 use Rattle.relation_terms.specs.declared.terms.keys.ConstKey.{ConstKey}
+use Rattle.relation_terms.specs.declared.terms.keys.TyKey.{TyKey}
 use Rattle.relation_terms.specs.Heads.{VarKind, variable}
 use Rattle.relation_terms.specs.Trees.{Tree, leaf}
+use Rattle.relation_terms.specs.Meaning.{Meaning}
 use Rattle.relation_semantics.specs.Errors.{IsOpaque, IsOpaqueBeside, IsDeferred}
 use Rattle.relation_semantics.specs.Lawful.{State}
 use Rattle.relation_semantics.specs.Relation.{IsError, IsAlias}
@@ -16,13 +18,20 @@ use Rattle.relation_combining.specs.declared.deferring.Deferring.TheVariants.{To
 abbrev pub IsVariable : Tree → Type 0
 IsVariable t = (k : VarKind) × (n : ℕ) × (t ≡ leaf (variable k n))
 
+-- A type is neither an error, nor a variable, nor an alias; the same of two types.
+abbrev pub IsOrdinary : Tree → Type 0
+IsOrdinary t = (IsError t → ⊥) × (IsVariable t → ⊥) × (IsAlias t → ⊥)
+
+abbrev pub AreOrdinary : {Key Id Name : Type 0} → Meaning Key Id Name → TyKey Key → TyKey Key → Type 0
+AreOrdinary m a b = IsOrdinary (m.ty a) × IsOrdinary (m.ty b)
+
 -- A type is so before its parts are looked at: an error, a variable, an opaque type, another alias, or none of these.
 abbrev pub StandsAs : Standing → Tree → Type 0
 StandsAs Error t = IsError t
 StandsAs Variable t = IsVariable t
 StandsAs Opaque t = IsOpaque t
 StandsAs Alias t = IsAlias t × (IsOpaque t → ⊥)
-StandsAs Other t = (IsError t → ⊥) × (IsVariable t → ⊥) × (IsAlias t → ⊥)
+StandsAs Other t = IsOrdinary t
 
 -- What comes of two types neither of which is an error: they are left to a goal, one being an alias; they are left open,
 -- one being an opaque type beside no variable; or neither.

@@ -32,6 +32,7 @@ pub(crate) enum Deferring {
 }
 
 // What a form is to relating.
+#[inline(always)]
 fn standing_by<X, D, N>(kind: &TyKind<X, D, N>) -> Standing
     ensures { (m : Meaning X D N) → StandsAs result (kind_tree m kind.now) }
 {
@@ -52,6 +53,7 @@ fn standing_by<X, D, N>(kind: &TyKind<X, D, N>) -> Standing
 }
 
 // What a type of a context is to relating.
+#[inline(always)]
 pub(crate) fn ty_standing<Infcx: InferCtxtLike>(infcx: &Infcx, ty: &Ty<Infcx::Interner>) -> Standing
     requires { KnowsTy (Infcx.state infcx.now) ty.now }
     ensures { StandsAs result (((Infcx.state infcx.now).meaning).ty ty.now) }

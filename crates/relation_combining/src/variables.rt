@@ -1,11 +1,13 @@
 //! Which variable a term of a context is.
-ghost use Rattle.std.specs.Prelude.{◌≡◌, ℕ, false, not, IsTrue, IsFalse, IfSome, IfNone};
+ghost use Rattle.std.specs.Prelude.{◌≡◌, ◌↔◌, ℕ, false, not, IsTrue, IsFalse, IfSome, IfNone};
 ghost use Rattle.relation_terms.specs.Flags.{has_non_region_infer};
 ghost use Rattle.relation_terms.specs.Trees.{known};
 ghost use Rattle.relation_semantics.specs.Contexts.{KnowsTy, KnowsConst};
+ghost use Rattle.relation_combining.specs.Deferring.{IsOrdinary, AreOrdinary};
 ghost use Rattle.relation_combining.specs.Variables.{MeansTyVar, MeansConstVar, IsFormedWithin, IsFormedConstWithin};
 ghost use Rattle.relation_combining.specs.Variables.{one_has_variable};
 
+use crate::deferring::{Standing, ty_standing};
 use relation_semantics::infer_ctxt::InferCtxtLike;
 pub use relation_semantics::variable_forms::{const_vid, float_vid, int_vid, ty_vid};
 use relation_terms::terms::{Const, ConstVid, Interner, Ty, TyVid};
@@ -58,4 +60,32 @@ pub fn have_no_variable<Infcx: InferCtxtLike>(
         return false;
     }
     has_no_variable(cx, b)
+}
+
+// Whether a type of a context is ordinary: neither an error, nor a variable, nor an alias.
+fn is_ordinary<Infcx: InferCtxtLike>(infcx: &Infcx, ty: &Ty<Infcx::Interner>) -> bool
+    requires { KnowsTy (Infcx.state infcx.now) ty.now }
+    ensures { IsTrue result ↔ IsOrdinary ((Infcx.state infcx.now).meaning.ty ty.now) }
+{
+    match ty_standing(infcx, ty) {
+        Standing::Other => true,
+        _ => false,
+    }
+}
+
+/// Whether two types of a context are ordinary: neither errors, nor variables, nor aliases. Such a pair is left to its
+/// parts: nothing is bound, recorded or registered before. Upstream it is the last case of `super_combine_tys`.
+pub fn are_ordinary<Infcx: InferCtxtLike>(
+    infcx: &Infcx,
+    a: &Ty<Infcx::Interner>,
+    b: &Ty<Infcx::Interner>,
+) -> bool
+    requires a_known { KnowsTy (Infcx.state infcx.now) a.now }
+    requires b_known { KnowsTy (Infcx.state infcx.now) b.now }
+    ensures { IsTrue result ↔ AreOrdinary (Infcx.state infcx.now).meaning a.now b.now }
+{
+    if !is_ordinary(infcx, a) {
+        return false;
+    }
+    is_ordinary(infcx, b)
 }
