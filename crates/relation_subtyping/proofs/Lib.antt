@@ -1,0 +1,5 @@
+pub mod AskedRegions
+pub mod LeastWorlds
+pub mod Entailing
+pub mod Staying
+pub mod Bare
