@@ -27,9 +27,9 @@ use Rattle.relation_subtyping.proofs.AskedRegions.{IsRegionLeaf, asked_regions}
 use Rattle.relation_subtyping.proofs.LeastWorlds.{said_outlives, least, all_static, only_said, is_model, is_world}
 
 -- A region without variables.
-record IsValueRegion (t : Tree) : Type 0 where
-  no_variable : IsNotVariable region_var t
-  own : (s : Assign) → apply s t ≡ t
+pub record IsValueRegion (t : Tree) : Type 0 where
+  pub no_variable : IsNotVariable region_var t
+  pub own : (s : Assign) → apply s t ≡ t
 
 value_region : (t : Tree) → IsRegionLeaf IsValueLeaf t → IsValueRegion t
 value_region t h = record {
@@ -60,7 +60,7 @@ pub never_entailed : (facts : List (Tree × Tree)) (c : Items) (st : Store) (e :
 never_entailed facts c st e v a b never entail =
     never (least facts st a b) (entail (least facts st a b) (is_model facts st a b))
 
-module _ {facts : List (Tree × Tree)} {c : Items} {e : Tree} {v : Variance} {a b : Tree} {before after : Store}
+module _ (facts : List (Tree × Tree)) {c : Items} {e : Tree} {v : Variance} {a b : Tree} (before after : Store)
     {goals : List Goal} (bare : AreBareValues a b)
     (just : IsJustAsked c e v a b before.constraints after.constraints goals)
     (where_asked : AreRelatedWhereAsked c e v a b) where
@@ -145,14 +145,17 @@ module _ {facts : List (Tree × Tree)} {c : Items} {e : Tree} {v : Variance} {a 
   -- What was recorded before holds in each world of what is recorded after, where it follows of the facts.
   before_holds : IsLater before after → RecordFollows facts before → (w : Interpretation) (s : Assign) →
       IsWorld facts after w s → All (ConstraintHolds w s) before.constraints
-  before_holds later follows w s world = follows w s record {
-    facts_hold = world.facts_hold;
-    longest = λ t m. world.longest t (mentioned_more t m);
-    uniform = λ n p made cannot h. world.uniform n p (later.grows region_var n made)
-        (λ names. cannot (Leaves_map (IsNamable (universe_of after region_var n)) (IsNamable (universe_of before region_var n))
-        (namable_mono (universe_of after region_var n) (universe_of before region_var n) (later.universes_fall region_var n made))
-        p names)) h;
-  }
+  before_holds later follows w s world =
+      let after_u = universe_of after region_var in
+      let before_u = universe_of before region_var in
+      let world_before : IsWorld facts before w s = record {
+        facts_hold = world.facts_hold;
+        longest = λ t m. world.longest t (mentioned_more t m);
+        uniform = λ n p made cannot h. world.uniform n p (later.grows region_var n made)
+            (λ names. cannot (Leaves_map (IsNamable (after_u n)) (IsNamable (before_u n))
+            (namable_mono (after_u n) (before_u n) (later.universes_fall region_var n made)) p names)) h;
+      } in
+      follows w s world_before
 
   -- What was recorded follows still, where it can be solved.
   pub follows_still : IsLater before after → RecordFollows facts before → HasSolution facts after →

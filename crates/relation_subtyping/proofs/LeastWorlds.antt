@@ -45,11 +45,11 @@ each_listed (cons t ts) = (
 abbrev pub all_static : Assign
 all_static k n = static
 
-first_value : Constraint → Tree
+abbrev first_value : Constraint → Tree
 first_value (outlives_constraint x y) = apply all_static x
 first_value (equal_constraint x y) = apply all_static x
 
-second_value : Constraint → Tree
+abbrev second_value : Constraint → Tree
 second_value (outlives_constraint x y) = apply all_static y
 second_value (equal_constraint x y) = apply all_static y
 
@@ -60,29 +60,29 @@ value_of (outlives_constraint x y) t (inr e) = inr (ap (apply all_static) e)
 value_of (equal_constraint x y) t (inl e) = inl (ap (apply all_static) e)
 value_of (equal_constraint x y) t (inr e) = inr (ap (apply all_static) e)
 
-longer_value : Tree × Tree → Tree
+abbrev longer_value : Tree × Tree → Tree
 longer_value f = apply all_static f.0
 
-shorter_value : Tree × Tree → Tree
+abbrev shorter_value : Tree × Tree → Tree
 shorter_value f = apply all_static f.1
 
-under_static : Tree → Tree × Tree
+abbrev under_static : Tree → Tree × Tree
 under_static t = (static, t)
 
 module _ (facts : List (Tree × Tree)) (st : Store) (a b : Tree) where
-  of_terms : List Tree
+  abbrev of_terms : List Tree
   of_terms = leaves_of a ++ leaves_of b
 
-  of_facts : List Tree
+  abbrev of_facts : List Tree
   of_facts = map longer_value facts ++ map shorter_value facts
 
-  of_constraints : List Tree
+  abbrev of_constraints : List Tree
   of_constraints = map first_value st.constraints ++ map second_value st.constraints
 
-  regions : List Tree
+  abbrev regions : List Tree
   regions = (static ∷ []) ++ (of_terms ++ (of_facts ++ of_constraints))
 
-  pairs : List (Tree × Tree)
+  abbrev pairs : List (Tree × Tree)
   pairs = facts ++ map under_static regions
 
   -- The facts hold, and 'static outlives all regions of facts and constraints, and all leaves of the two terms.

@@ -3,3 +3,4 @@ pub mod LeastWorlds
 pub mod Entailing
 pub mod Staying
 pub mod Bare
+pub mod Answering

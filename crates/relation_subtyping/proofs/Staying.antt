@@ -26,7 +26,7 @@ module _ {Key Id Name : Type 0} (c : Context Key Id Name) where
       IsFactIn c f → m.region f.1 ≡ (c.meaning).region f.1
   shorter_is m f grown h = grown.region f.1 (region_known c.store ((c.meaning).region f.1) h.shorter_in)
 
-  pub fact_stays : (d : Context Key Id Name) (f : OutlivesPredicate Key (RegionKey Key)) →
+  fact_stays : (d : Context Key Id Name) (f : OutlivesPredicate Key (RegionKey Key)) →
       Extends c.meaning d.meaning → IsLater c.store d.store → IsFactIn c f → IsFactIn d f
   fact_stays d f grown later h =
       let x = longer_is d.meaning f grown h in
@@ -40,10 +40,15 @@ module _ {Key Id Name : Type 0} (c : Context Key Id Name) where
         shorter_no_variable = subst (IsNotVariable region_var) (sym y) h.shorter_no_variable;
       }
 
+  pub facts_later : (d : Context Key Id Name) (facts : List (OutlivesPredicate Key (RegionKey Key))) →
+      Extends c.meaning d.meaning → IsLater c.store d.store → All (IsFactIn c) facts → All (IsFactIn d) facts
+  facts_later d facts grown later all = λ i x lt. fact_stays d (get_or facts i x) grown later (all i x lt)
+
   pub pairs_stay : (m : Meaning Key Id Name) (facts : List (OutlivesPredicate Key (RegionKey Key))) →
       Extends c.meaning m → All (IsFactIn c) facts → region_pairs m facts ≡ region_pairs c.meaning facts
   pairs_stay m [] grown all = refl
   pairs_stay m (f ∷ fs) grown all =
       let h = All-head (IsFactIn c) f fs all in
-      let same : region_pair m f ≡ region_pair c.meaning f = cc (longer_is m f grown h, shorter_is m f grown h) in
+      let same : region_pair m f ≡ region_pair c.meaning f = ap₂ (λ (x y : Tree). (x, y)) (longer_is m f grown h)
+      (shorter_is m f grown h) in
       ap₂ (λ p ps. p ∷ ps) same (pairs_stay m fs grown (All-tail (IsFactIn c) f fs all))
