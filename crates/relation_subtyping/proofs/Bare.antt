@@ -1,5 +1,5 @@
 -- What relating promises of bare values it does, and of which facts solving speaks.
-use Rattle.std.proofs.Common.{◌≡◌, List, inr, sym, subst}
+use Rattle.std.proofs.Common.{◌≡◌, ℕ, List, inr, subst}
 use Rattle.relation_terms.specs.Heads.{Leaf, variable, bound, placeholder, atom, unknown}
 use Rattle.relation_terms.specs.Trees.{Tree, leaf, node, bind, nil, cons, Leaves}
 use Rattle.relation_semantics.specs.Asking.{ArePlain, without_aliases}
@@ -10,7 +10,6 @@ use Rattle.relation_semantics.specs.Steps.{HasNoBinder}
 use Rattle.relation_semantics.specs.Stores.{Store}
 use Rattle.relation_combining.specs.ClosedTerms.{IsClosed}
 use Rattle.context_regions.specs.Solutions.{HasSolution, IsUnmetBy}
-use Rattle.std.specs.Prelude.{ℕ}
 use Rattle.relation_subtyping.specs.Entailment.{AreBareValues}
 
 pub bare_terms : (k : Settings) (a b : Tree) → AreBareValues a b → AreBare k a b

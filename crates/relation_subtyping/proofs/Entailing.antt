@@ -1,5 +1,5 @@
 -- What is recorded of two bare values, when it is solved: whether facts entail that they are related.
-use Rattle.std.proofs.Common.{◌≡◌, ℕ, ◌<◌, List, refl, ap, sym, ◌∙◌, subst, inl, inr, All, length, get_or}
+use Rattle.std.proofs.Common.{◌≡◌, ◌↔◌, ℕ, ◌<◌, List, refl, ap, sym, ◌∙◌, subst, inl, inr, All, length, get_or}
 use Rattle.std.proofs.lemmas.List.{get_or_default}
 use Rattle.std.specs.List.{Contains, HoldsAt}
 use Rattle.std.proofs.lemmas.List.Elements.{Contains-append_left, Contains-append_right, All-append, All-contains}
@@ -56,9 +56,11 @@ carried w w' s s' (equal_constraint x y) f h =
 
 -- Related nowhere is not entailed: there is a world of the facts.
 pub never_entailed : (facts : List (Tree × Tree)) (c : Items) (st : Store) (e : Tree) (v : Variance) (a b : Tree) →
-    AreNeverRelated c e v a b → FactsEntail facts c e v a b → ⊥
-never_entailed facts c st e v a b never entail =
-    never (least facts st a b) (entail (least facts st a b) (is_model facts st a b))
+    AreNeverRelated c e v a b → ⊥ ↔ FactsEntail facts c e v a b
+never_entailed facts c st e v a b never = (
+  λ yes. absurd yes,
+  λ entail. never (least facts st a b) (entail (least facts st a b) (is_model facts st a b)),
+)
 
 module _ (facts : List (Tree × Tree)) {c : Items} {e : Tree} {v : Variance} {a b : Tree} (before after : Store)
     {goals : List Goal} (bare : AreBareValues a b)
@@ -133,14 +135,17 @@ module _ (facts : List (Tree × Tree)) {c : Items} {e : Tree} {v : Variance} {a 
 
   -- What can't be solved refutes that, where what was recorded before follows of the facts.
   pub refuted : {longer shorter : Tree} {by : List ℕ} → RecordFollows facts before →
-      IsUnmetBy facts after longer shorter by → FactsEntail facts c e v a b → ⊥
-  refuted {longer} {shorter} {by} follows unmet entail =
-      let w = least facts after a b in
-      let all = all_hold follows entail in
-      let holds : (i : ℕ) → Contains by i → HoldsAt (ConstraintHolds w all_static) after.constraints i = λ i has d.
-      all i d (All-contains (λ j. j < length after.constraints) by i unmet.recorded has) in
-      unmet.unsaid (only_said facts after a b longer shorter
-      (unmet.forced w all_static (is_world facts after a b after (λ t m. m)) holds))
+      IsUnmetBy facts after longer shorter by → ⊥ ↔ FactsEntail facts c e v a b
+  refuted {longer} {shorter} {by} follows unmet = (λ yes. absurd yes, refutes)
+    where
+      refutes : FactsEntail facts c e v a b → ⊥
+      refutes entail =
+          let w = least facts after a b in
+          let all = all_hold follows entail in
+          let holds : (i : ℕ) → Contains by i → HoldsAt (ConstraintHolds w all_static) after.constraints i = λ i has d.
+          all i d (All-contains (λ j. j < length after.constraints) by i unmet.recorded has) in
+          unmet.unsaid (only_said facts after a b longer shorter
+          (unmet.forced w all_static (is_world facts after a b after (λ t m. m)) holds))
 
   -- What was recorded before holds in each world of what is recorded after, where it follows of the facts.
   before_holds : IsLater before after → RecordFollows facts before → (w : Interpretation) (s : Assign) →

@@ -1,11 +1,11 @@
 -- Facts of a context are facts of a later one, and of the same regions.
-use Rattle.std.proofs.Common.{◌≡◌, List, [], ◌∷◌, ap, ap₂, sym, subst, refl, All, length, get_or}
+use Rattle.std.proofs.Common.{◌≡◌, List, [], ◌∷◌, ap₂, sym, subst, refl, All, get_or}
 use Rattle.std.proofs.lemmas.List.Elements.{All-head, All-tail}
 use Rattle.relation_terms.specs.declared.predicate.regions.OutlivesPredicate.{OutlivesPredicate}
 use Rattle.relation_terms.specs.declared.terms.keys.RegionKey.{RegionKey}
-use Rattle.relation_terms.specs.Heads.{region_sort, region_var}
+use Rattle.relation_terms.specs.Heads.{region_var}
 use Rattle.relation_terms.specs.Meaning.{Meaning, Extends}
-use Rattle.relation_terms.specs.Trees.{Tree, IsTerm}
+use Rattle.relation_terms.specs.Trees.{Tree}
 use Rattle.relation_semantics.specs.Contexts.{Context}
 use Rattle.relation_semantics.specs.ContextCalls.{IsNotVariable}
 use Rattle.relation_semantics.specs.Steps.{IsLater}

@@ -19,12 +19,10 @@ returns-in-Err-Unrelated-clause-decides g c = λ bare follows.
     let lhs = term_in s g.T.Relate.over g.T.HasTree.tree c.args.lhs in
     let rhs = term_in s g.T.Relate.over g.T.HasTree.tree c.args.rhs in
     let plain = plain_terms (solver_settings No s.setup) lhs rhs bare in
-    let answered = c.in-Err-Unrelated.ensures.complete bare.sort bare.left_value bare.right_value plain in (
-      λ yes. absurd yes,
-      never_entailed (region_pairs s.meaning c.args.facts.now) (items_of s.meaning) s.store
-          ((s.meaning).param_env c.args.param_env) c.args.variance lhs rhs
-          (rw c.in-Err-Unrelated.field-0-is at answered),
-    )
+    let answered = c.in-Err-Unrelated.ensures.complete bare.sort bare.left_value bare.right_value plain in
+    never_entailed (region_pairs s.meaning c.args.facts.now) (items_of s.meaning) s.store
+    ((s.meaning).param_env c.args.param_env) c.args.variance lhs rhs
+    (rw c.in-Err-Unrelated.field-0-is at answered)
 
 pub returns-in-Err-Unrelated-clause-certain : goal.returns-in-Err-Unrelated-clause-certain
 returns-in-Err-Unrelated-clause-certain g c = λ bare.
@@ -174,10 +172,8 @@ returns-in-Some-clause-decides g c = λ bare follows.
     c.in_ok-unmet.ensures.solved in
     let refutes = unmet_as s d f c.args.facts.now c.requires.facts_in c.in-Ok.ensures.leaves.grown
     c.in_ok-unmet.ensures.grows.extends c.in_ok-unmet.ensures.same_record
-    ((f.meaning).region c.in-Some.unmet.0) ((f.meaning).region c.in-Some.unmet.1) some.0 some.1 in (
-      λ yes. absurd yes,
-      refuted (region_pairs s.meaning c.args.facts.now) s.store d.store bare just where_asked follows refutes,
-    )
+    ((f.meaning).region c.in-Some.unmet.0) ((f.meaning).region c.in-Some.unmet.1) some.0 some.1 in
+    refuted (region_pairs s.meaning c.args.facts.now) s.store d.store bare just where_asked follows refutes
 
 pub returns-in-Some-clause-unsaid : goal.returns-in-Some-clause-unsaid
 returns-in-Some-clause-unsaid g c =
