@@ -45,8 +45,8 @@ pub type SubtypingOf<I> = Subtyping<<I as Keys>::Key, <I as Keys>::Id, <I as Key
 /// follows of the facts, and an assignment that satisfies all that is recorded, which relate the two if the goals are
 /// so. They may have others, which don't.
 ///
-/// What `relate` records stands after each answer. Upstream `relate_types` of the compiler answers this but for what
-/// regions outlive.
+/// What `relate` records stands after each answer. Upstream the compiler's `relate_types` answers this, ignoring
+/// regions.
 ///
 /// # Errors
 /// `Budget` only where no instantiation is left, and of the terms first named never. `Memory` where a growth was
