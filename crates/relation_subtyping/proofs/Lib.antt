@@ -1,0 +1,6 @@
+pub mod AskedRegions
+pub mod LeastWorlds
+pub mod Entailing
+pub mod Staying
+pub mod Bare
+pub mod Answering
