@@ -45,14 +45,15 @@ fn header_of<I: Interner>(
     ensures grown { Extends (I.meaning cx.old) (I.meaning cx.new) }
     ensures sure { IfOk result (λ p. IsTrue (known (header_tree (I.meaning cx.new) p.1))) }
 {
-    let Some(bound) = bound_of(cx, terms, number) else {
+    let Some(Binder { value, bound_vars }) = bound_of(cx, terms, number) else {
         return Err(Unasked::Memory);
     };
+    let TraitRef { def_id, args } = value;
     let header = Binder {
-        value: bound.value.args,
-        bound_vars: bound.bound_vars,
+        value: args,
+        bound_vars,
     };
-    Ok((bound.value.def_id, header))
+    Ok((def_id, header))
 }
 
 // The two impls of a question.
