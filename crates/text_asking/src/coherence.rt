@@ -45,9 +45,10 @@ fn header_of<I: Interner>(
     ensures grown { Extends (I.meaning cx.old) (I.meaning cx.new) }
     ensures sure { IfOk result (λ p. IsTrue (known (header_tree (I.meaning cx.new) p.1))) }
 {
-    let Some(Binder { value, bound_vars }) = bound_of(cx, terms, number) else {
+    let Some(bound) = bound_of(cx, terms, number) else {
         return Err(Unasked::Memory);
     };
+    let Binder { value, bound_vars } = bound;
     let TraitRef { def_id, args } = value;
     let header = Binder {
         value: args,
