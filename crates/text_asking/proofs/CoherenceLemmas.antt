@@ -5,7 +5,6 @@ use Rattle.relation_terms.specs.Heads.{BoundKind}
 use Rattle.relation_terms.specs.Trees.{known}
 use Rattle.relation_terms.specs.Meaning.{Meaning, Extends, under}
 use Rattle.relation_terms.specs.Predicates.{trait_ref_tree}
-use Rattle.relation_terms.specs.Owned.{bound_tree}
 use Rattle.relation_terms.specs.declared.predicate.trait_ref.TraitRef.{TraitRef}
 use Rattle.relation_terms.specs.declared.terms.binder.Binder.{Binder}
 use Rattle.relation_terms.specs.declared.terms.keys.ArgsKey.{ArgsKey}
@@ -16,14 +15,10 @@ use Rattle.text_coherence.specs.Asked.{AreForKnown}
 use Rattle.text_coherence.specs.declared.methods.GenericMethod.{GenericMethod}
 
 -- The arguments of a known trait reference under its binder are a known header.
-under_args : {Key Id Name : Type 0} (m : Meaning Key Id Name) (o : Option (List BoundKind)) (t : TraitRef Key Id) →
+pub header_known : {Key Id Name : Type 0} (m : Meaning Key Id Name) (o : Option (List BoundKind)) (t : TraitRef Key Id) →
     IsTrue (known (under o (trait_ref_tree m t))) → IsTrue (known (under o (m.args t.args)))
-under_args m (Some ks) t h = h
-under_args m None t h = absurd h
-
-pub header_known : {Key Id Name : Type 0} (m : Meaning Key Id Name) (b : Binder Key (TraitRef Key Id)) →
-    IsTrue (known (bound_tree m b)) → IsTrue (known (under (m.bound_vars b.bound_vars) (m.args (b.value).args)))
-header_known m b k = under_args m (m.bound_vars b.bound_vars) b.value k
+header_known m (Some ks) t h = h
+header_known m None t h = h
 
 -- A known header stays known while the interner grows.
 pub header_later : {Key Id Name : Type 0} (m n : Meaning Key Id Name) → Extends m n → (h : Binder Key (ArgsKey Key)) →

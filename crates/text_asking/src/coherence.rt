@@ -48,11 +48,13 @@ fn header_of<I: Interner>(
     let Some(bound) = bound_of(cx, terms, number) else {
         return Err(Unasked::Memory);
     };
+    let Binder { value, bound_vars } = bound;
+    let TraitRef { def_id, args } = value;
     let header = Binder {
-        value: bound.value.args,
-        bound_vars: bound.bound_vars,
+        value: args,
+        bound_vars,
     };
-    Ok((bound.value.def_id, header))
+    Ok((def_id, header))
 }
 
 // The two impls of a question.

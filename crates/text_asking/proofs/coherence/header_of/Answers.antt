@@ -3,4 +3,5 @@ use Rattle.text_asking.proofs.coherence.header_of.Goals as goal
 
 pub returns-clause-sure : goal.returns-clause-sure
 returns-clause-sure g c =
-    header_known (g.I.Interner.meaning c.bound_of.new.cx) c.in-Some.bound c.in-Some.ensures.sure
+    let m = g.I.Interner.meaning c.bound_of.new.cx in
+    header_known m (m.bound_vars (c.in-Some.bound).bound_vars) (c.in-Some.bound).value c.in-Some.ensures.sure
