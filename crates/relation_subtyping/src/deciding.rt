@@ -23,7 +23,7 @@ use type_relations::relate::solver_relating::RelateExt;
 pub enum Subtyping<X: Copy, D, N> {
     /// It is, where the goals hold.
     Holds(Vec<Goal<X, PredicateKey<X>>>),
-    /// The two clash.
+    /// The two clash, or two parts that stand at one place.
     Clash(TypeError<X, D, N>),
     /// The one region would have to outlive the other, which doesn't follow of the facts.
     Unmet(RegionOutlivesPredicate<X>),
