@@ -1,5 +1,6 @@
 -- What is answered of two values in a context: whether facts entail that they are related.
 use Rattle.std.specs.Prelude.{◌≡◌, ◌↔◌, ℕ, List, [], Option, Some, None, IfOk, Result, All}
+use Rattle.term_enums.specs.declared.StructurallyRelateAliases.TheVariants.{No}
 use Rattle.term_enums.specs.declared.Variance.{Variance}
 use Rattle.relation_terms.specs.declared.predicate.regions.OutlivesPredicate.{OutlivesPredicate}
 use Rattle.relation_terms.specs.declared.terms.keys.RegionKey.{RegionKey}
@@ -10,10 +11,12 @@ use Rattle.relation_terms.specs.Trees.{Tree, Assign, apply}
 use Rattle.relation_folds.specs.declared.error.RelateFault.{RelateFault}
 use Rattle.relation_folds.specs.Faults.{IfSpent}
 use Rattle.relation_semantics.specs.Contexts.{Context}
+use Rattle.relation_semantics.specs.Errors.{ErrorOf}
 use Rattle.relation_semantics.specs.Goals.{Goal, goals_of, Holds as GoalHolds}
 use Rattle.relation_semantics.specs.Lawful.{items_of}
 use Rattle.relation_semantics.specs.Relation.{Items, Interpretation, Rel, at}
 use Rattle.relation_semantics.specs.Stores.{Store}
+use Rattle.relation_combining.specs.Solving.{solver_settings}
 use Rattle.context_relation.specs.Completing.{AreNeverRelated}
 use Rattle.context_relation.specs.Relating.{term_in}
 use Rattle.context_regions.specs.Solutions.{HasSolution, IsUnmetBy}
@@ -97,6 +100,16 @@ module _ {S Key Id Name : Type 0} (state : S → Context Key Id Name) (old new :
     -- related nowhere; and no instantiation is wanting.
     abbrev pub IsCertain : Result (Subtyping Key Id Name) (RelateFault Key Id Name) → Type 0
     IsCertain result = AreBareValues (term a) (term b) → IfOk result IfCertain × IfSpent result ⊥
+
+    abbrev IfClash : Subtyping Key Id Name → Type 0
+    IfClash (Holds goals) = Unit {0}
+    IfClash (Clash why) = ErrorOf (state new).meaning (solver_settings No (state new).setup) (items_of (state new).meaning)
+        (state new).store v why (term a) (term b)
+    IfClash (Unmet p) = Unit {0}
+
+    -- A clash is that of the two, or of two parts at one place.
+    abbrev pub IsClash : Result (Subtyping Key Id Name) (RelateFault Key Id Name) → Type 0
+    IsClash result = IfOk result IfClash
 
     abbrev IfPossible : Subtyping Key Id Name → Type 0
     IfPossible (Holds goals) = MayBeRelated said items (state new).store (goals_of (state new).meaning goals.items) env v

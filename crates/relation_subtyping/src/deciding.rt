@@ -8,7 +8,8 @@ ghost use Rattle.relation_semantics.specs.Stores.{IsSound};
 ghost use Rattle.relation_semantics.specs.ContextCalls.{Grows};
 ghost use Rattle.context_regions.specs.Solving.{IsFactIn};
 ghost use Rattle.type_relations.specs.Contract.{CanRelate};
-ghost use Rattle.relation_subtyping.specs.Answers.{IsSolved, Decides, FollowsStill, IsCertain, IsUnsaid, IsPossible};
+ghost use Rattle.relation_subtyping.specs.Answers.{IsSolved, Decides, FollowsStill, IsCertain, IsClash, IsUnsaid};
+ghost use Rattle.relation_subtyping.specs.Answers.{IsPossible};
 
 use context_regions::{RecordedRegions, RegionOutlivesPredicate, Solved, solve};
 use relation_folds::error::{RelateFault, RelateResult, TypeError};
@@ -22,7 +23,7 @@ use type_relations::relate::solver_relating::RelateExt;
 pub enum Subtyping<X: Copy, D, N> {
     /// It is, where the goals hold.
     Holds(Vec<Goal<X, PredicateKey<X>>>),
-    /// The two clash.
+    /// The two clash, or two parts that stand at one place.
     Clash(TypeError<X, D, N>),
     /// The one region would have to outlive the other, which doesn't follow of the facts.
     Unmet(RegionOutlivesPredicate<X>),
@@ -68,6 +69,8 @@ pub fn decide_subtype<C: RecordedRegions, T: Relate<C::Interner>>(
         FollowsStill C.state ctx.old ctx.new facts.now T.over T.tree e variance lhs rhs result }
     ensures certain { let e = param_env in
         IsCertain C.state ctx.old ctx.new facts.now T.over T.tree e variance lhs rhs result }
+    ensures clash { let e = param_env in
+        IsClash C.state ctx.old ctx.new facts.now T.over T.tree e variance lhs rhs result }
     ensures unsaid { IsUnsaid C.state ctx.old ctx.new facts.now result }
     ensures possible { let e = param_env in
         IsPossible C.state ctx.old ctx.new facts.now T.over T.tree e variance lhs rhs result }

@@ -33,6 +33,10 @@ returns-in-Err-Unrelated-clause-certain g c = λ bare.
     let answered = c.in-Err-Unrelated.ensures.complete bare.sort bare.left_value bare.right_value plain in
     (rw c.in-Err-Unrelated.field-0-is at answered, tt)
 
+pub returns-in-Err-Unrelated-clause-clash : goal.returns-in-Err-Unrelated-clause-clash
+returns-in-Err-Unrelated-clause-clash g c =
+    rw c.in-Err-Unrelated.field-0-is at c.in-Err-Unrelated.ensures.fault.errors
+
 -- No instantiation is left.
 pub returns-in-Err-Budget-clause-certain : goal.returns-in-Err-Budget-clause-certain
 returns-in-Err-Budget-clause-certain g c = λ bare.
