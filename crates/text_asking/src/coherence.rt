@@ -181,7 +181,6 @@ fn methods_of<I: Interner>(
 }
 
 // The names of the methods of a range of a program's list that may be for a type.
-#[tactic(auto, using(variable_tables::proofs::Grows::lawful_grows))]
 pub(super) fn ask_methods<I: Interner>(
     ctx: &mut RefCtxt<I>,
     terms: &Ready<I>,

@@ -10,5 +10,9 @@ find_methods-requires-clause-ty_known g c =
 pub returns-in-Ok-clause-lawful : goal.returns-in-Ok-clause-lawful
 returns-in-Ok-clause-lawful g c = lawful_grows c.methods_of.ensures.grown c.args.ctx.now.inner c.requires.lawful
 
-pub returns-in-Err-clause-lawful : goal.returns-in-Err-clause-lawful
-returns-in-Err-clause-lawful g c = lawful_grows c.methods_of.ensures.grown c.args.ctx.now.inner c.requires.lawful
+pub returns-in_default-methods_of-clause-lawful : goal.returns-in_default-methods_of-clause-lawful
+returns-in_default-methods_of-clause-lawful g c =
+    lawful_grows c.methods_of.ensures.grown c.args.ctx.now.inner c.requires.lawful
+
+pub returns-clause-lawful : goal.returns-clause-lawful
+returns-clause-lawful g c = lawful_grows c.methods_of.ensures.grown c.args.ctx.now.inner c.requires.lawful
