@@ -27,7 +27,7 @@ use Rattle.relation_steps.specs.Arguments.{AreOverItem}
 use Rattle.relation_steps.specs.Bivariance.{HasOpenArgument, AsksOfOver}
 use Rattle.relation_steps.specs.Keyed.{NotedTys, TysAskOpen}
 use Rattle.relation_combining.specs.Solving.{solver_manner}
-use Rattle.relation_recursion.proofs.OverItems.{error_not_over, alias_not_over, opaque_not_over, leaf_not_over}
+use Rattle.relation_recursion.proofs.OverItems.{error_not_over, alias_not_over, opaque_not_over, left_no_leaf, right_no_leaf}
 use Rattle.relation_combining.specs.Combining.{RegistersOne, RegistersNone, TysCombine, MeetsTys, equated, left_unlike}
 use Rattle.relation_combining.specs.Combining.{left_bound as number_on_left, right_bound as number_on_right, right_unlike}
 use Rattle.relation_combining.specs.Combining.{ty_variable, by_parts}
@@ -229,9 +229,9 @@ module _ {Key Id Name : Type 0} (r q : State Key Id Name) where
 
       meets : MeetsTys r.meaning r.store q.store a b res →
           LeavesParts (q.meaning).ty ((r.meaning).ty a) ((r.meaning).ty b) res
-      meets (equated k i j n f g o is) = absurd (leaf_not_over over (inl f))
-      meets (number_on_left k i f o is) = absurd (leaf_not_over over (inl f))
-      meets (number_on_right k i f o is) = absurd (leaf_not_over over (inr f))
+      meets (equated k i j n f g o is) = absurd (left_no_leaf _ over f)
+      meets (number_on_left k i f o is) = absurd (left_no_leaf _ over f)
+      meets (number_on_right k i f o is) = absurd (right_no_leaf _ over f)
       meets (left_unlike o s is) = leaves _ is tt
       meets (right_unlike o s is) = leaves _ is tt
       meets (ty_variable o s is) = leaves _ is tt
@@ -258,7 +258,7 @@ module _ {Key Id Name : Type 0} (r q : State Key Id Name) where
       subst₂ (λ u w. LeavesParts (q.meaning).ty u w res) (sym left) (sym right)
       (read_anew k l none (CombinesShallowTys r q k l) (LeavesParts (q.meaning).ty ((r.meaning).ty k) ((r.meaning).ty l))
       (λ p c. items_combine k l d ts us o extends (f'.reads).sure (g'.reads).sure p
-      (unless_variables k l (λ i e. leaf_not_over o (inl e)) (λ i e. leaf_not_over o (inr e)) p c)) (λ z k. tt) res h)
+      (unless_variables k l (λ i e. left_no_leaf _ o e) (λ i e. right_no_leaf _ o e) p c)) (λ z k. tt) res h)
 
   -- A step of two types registers alone what is asked of them.
   steps_alone : (M : Manners) (a b : TyKey Key) (res : Result (Step (TyKey Key)) (RelateFault Key Id Name)) →

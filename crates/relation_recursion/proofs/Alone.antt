@@ -53,9 +53,9 @@ module _ {Key Id Name : Type 0} where
       Contains s.goals (goal_of r.kept.environment (well_formed_predicate u))) e.0 e.1
       (h directed d ts us (subst₂ (λ t u. AreOverItem d t u ts us) (sym e.0) (sym e.1) over) opens)
 
-  pub asked_still : {n : ℕ} {r q p s : State Key Id Name} → Passes n r q → (x y : Tree) → s.store ≡ p.store →
+  pub asked_still : {n : ℕ} (r q p s : State Key Id Name) → Passes n r q → (x y : Tree) → s.store ≡ p.store →
       (more : List Goal) → s.goals ≡ p.goals ++ more → HasAskedOpen q p x y → HasAskedOpen r s x y
-  asked_still {n} {r} {q} {p} {s} g x y st more gs h directed d ts us over opens =
+  asked_still r q p s g x y st more gs h directed d ts us over opens =
       let o = subst₂ (λ c z. HasOpenArgument c z d ts ⊎ HasOpenArgument c z d us) (sym (same_items g)) st opens in
       let c = h (λ e. directed (sym g.ambient ∙ e)) d ts us over o in
       (stays (well_formed_predicate x) c.0, stays (well_formed_predicate y) c.1)
@@ -66,14 +66,14 @@ module _ {Key Id Name : Type 0} where
           (subst (λ e. Contains p.goals (goal_of e z)) (same_environment g.kept) m))
 
 -- So it is of two types behind parts that were related, by their keys.
-pub asked_then : {Key Id Name : Type 0} (M : Manners) {n : ℕ} {r q s : State Key Id Name} → Passes n r q →
-    (u : State Key Id Name) (a b : TyKey Key) → IsTrue (known ((r.meaning).ty a)) → IsTrue (known ((r.meaning).ty b)) →
+pub asked_then : {Key Id Name : Type 0} (M : Manners) {n : ℕ} (r q u s : State Key Id Name) → Passes n r q →
+    (a b : TyKey Key) → IsTrue (known ((r.meaning).ty a)) → IsTrue (known ((r.meaning).ty b)) →
     s.store ≡ u.store → (more : List Goal) → s.goals ≡ u.goals ++ more → (M r.kept.settings).registers_alone →
     ((M q.kept.settings).registers_alone → HasAskedOpen q u ((q.meaning).ty a) ((q.meaning).ty b)) →
     HasAskedOpen r s ((r.meaning).ty a) ((r.meaning).ty b)
-asked_then M {n} {r} {q} {s} g u a b ka kb st more gs promised asks =
+asked_then M r q u s g a b ka kb st more gs promised asks =
     subst₂ (HasAskedOpen r s) ((g.extends).ty a ka) ((g.extends).ty b kb)
-    (asked_still g ((q.meaning).ty a) ((q.meaning).ty b) st more gs
+    (asked_still r q u s g ((q.meaning).ty a) ((q.meaning).ty b) st more gs
     (asks (subst (λ k. (M k).registers_alone) (sym (same_settings g.kept)) promised)))
 
 module _ {Key Id Name : Type 0} (M : Manners) (r q : State Key Id Name) (a b : Tree) where

@@ -4,6 +4,7 @@ use Rattle.relation_terms.specs.declared.terms.ids.AdtId.{AdtId}
 use Rattle.relation_terms.specs.declared.terms.ids.FunctionId.{FunctionId}
 use Rattle.relation_terms.specs.declared.terms.keys.ArgsKey.{ArgsKey}
 use Rattle.relation_terms.specs.declared.terms.ty_kind.InferTy.{InferTy}
+use Rattle.relation_terms.specs.declared.terms.ty_kind.InferTy.TheVariants.{TyVar, IntVar, FloatVar, FreshTy, FreshIntTy, FreshFloatTy}
 use Rattle.relation_terms.specs.declared.terms.ty_kind.TyKind.{TyKind}
 use Rattle.relation_terms.specs.declared.terms.ty_kind.TyKind.TheVariants.{Adt, FnDef, Infer}
 use Rattle.relation_terms.specs.Heads.{adt, fn_def, Leaf}
@@ -22,11 +23,13 @@ module _ {d : ℕ} {a b ts us : Tree} where
   error_not_over (functions p q) (inl e) = subst IsError p e
   error_not_over (functions p q) (inr e) = subst IsError q e
 
-  pub leaf_not_over : {l k : Leaf} → AreOverItem d a b ts us → (a ≡ leaf l) ⊎ (b ≡ leaf k) → ⊥
-  leaf_not_over (adts p q) (inl e) = absurd cc
-  leaf_not_over (adts p q) (inr e) = absurd cc
-  leaf_not_over (functions p q) (inl e) = absurd cc
-  leaf_not_over (functions p q) (inr e) = absurd cc
+  pub left_no_leaf : (l : Leaf) → AreOverItem d a b ts us → a ≡ leaf l → ⊥
+  left_no_leaf l (adts p q) e = absurd cc
+  left_no_leaf l (functions p q) e = absurd cc
+
+  pub right_no_leaf : (l : Leaf) → AreOverItem d a b ts us → b ≡ leaf l → ⊥
+  right_no_leaf l (adts p q) e = absurd cc
+  right_no_leaf l (functions p q) e = absurd cc
 
   pub alias_not_over : AreOverItem d a b ts us → IsAlias a ⊎ IsAlias b → ⊥
   alias_not_over (adts p q) (inl e) = subst IsAlias p e
@@ -54,10 +57,20 @@ IsFnType (node (fn_def d) ts) = Unit {0}
 IsFnType t = ⊥
 
 infer_no_adt : (i : InferTy) → IsAdtType (infer_tree i) → ⊥
-infer_no_adt i o = o
+infer_no_adt (TyVar v) o = o
+infer_no_adt (IntVar v) o = o
+infer_no_adt (FloatVar v) o = o
+infer_no_adt (FreshTy k) o = o
+infer_no_adt (FreshIntTy k) o = o
+infer_no_adt (FreshFloatTy k) o = o
 
 infer_no_fn : (i : InferTy) → IsFnType (infer_tree i) → ⊥
-infer_no_fn i o = o
+infer_no_fn (TyVar v) o = o
+infer_no_fn (IntVar v) o = o
+infer_no_fn (FloatVar v) o = o
+infer_no_fn (FreshTy k) o = o
+infer_no_fn (FreshIntTy k) o = o
+infer_no_fn (FreshFloatTy k) o = o
 
 module _ {Key Id Name : Type 0} (m : Meaning Key Id Name) where
   abbrev NoAdt : TyKind Key Id Name → Type 0

@@ -633,7 +633,7 @@ tys-returns-in_ok-tys_done-in-Parts-clause-registers g t c =
     parts_register M r q a b s (q.meaning).ty c.in-Parts.a c.in-Parts.b
     (Ok c.in_ok-answer-in-Parts.answer)
     (subst (λ z. StepsAtOnce M r q (q.meaning).ty a b (Ok z)) c.in-Parts.is c.in_ok-answer.ensures.registers)
-    (λ promised. asked_still step.passes ((q.meaning).ty c.in-Parts.a) ((q.meaning).ty c.in-Parts.b) n.store
+    (λ promised. asked_still r q (g.R.HasState.state c.structurally_relate_tys.new.r) s step.passes ((q.meaning).ty c.in-Parts.a) ((q.meaning).ty c.in-Parts.b) n.store
     (n.passes).added (n.passes).lengthens (c.in_ok-answer-in-Parts.ensures.asks
     (subst (λ k. (M k).registers_alone) (sym (same_settings (step.passes).kept)) promised)))
 
@@ -1780,22 +1780,26 @@ pub structurally_relate_tys-returns-then-is_empty-clause-asks : goal.structurall
 structurally_relate_tys-returns-then-is_empty-clause-asks g t c =
     let M = g.R.TypeRelation.manner in
     let k = c.requires.asked in
-    let inv = c.loop-i.invariant in
+    let r = g.R.HasState.state c.args.r.now in
+    let q = g.R.HasState.state c.loop-i.r in
     let u = g.R.HasState.state c.note_args.new.r in
-    let passes = (inv.fronted).passes in
-    λ promised. asked_then M passes u c.args.a.now c.args.b.now k.left_known k.right_known refl [] (sym (append-nil u.goals))
+    let passes = (c.loop-i.invariant.fronted).passes in
+    λ promised. asked_then M r q u u passes c.args.a.now c.args.b.now k.left_known k.right_known refl [] (sym (append-nil u.goals))
     promised c.in_ok-note_args.ensures.asks
 
 pub structurally_relate_tys-returns-clause-asks : goal.structurally_relate_tys-returns-clause-asks
 structurally_relate_tys-returns-clause-asks g t c =
     let M = g.R.TypeRelation.manner in
     let k = c.requires.asked in
-    let inv = c.loop-i.invariant in
+    let r = g.R.HasState.state c.args.r.now in
+    let q = g.R.HasState.state c.loop-i.r in
     let u = g.R.HasState.state c.note_args.new.r in
-    let passes = (inv.fronted).passes in
+    let p = g.R.HasState.state c.make_ty.new.r in
+    let passes = (c.loop-i.invariant.fronted).passes in
     let made = c.make_ty.ensures in
-    λ promised. if_ok_anyhow c.make_ty.result (asked_then M passes u c.args.a.now c.args.b.now k.left_known k.right_known
-    (made.grown).store [] ((made.grown).goals ∙ sym (append-nil u.goals)) promised c.in_ok-note_args.ensures.asks)
+    λ promised. if_ok_anyhow c.make_ty.result (asked_then M r q u p passes c.args.a.now c.args.b.now k.left_known
+    k.right_known (made.grown).store [] ((made.grown).goals ∙ sym (append-nil u.goals)) promised
+    c.in_ok-note_args.ensures.asks)
 
 pub structurally_relate_tys-returns-then-is_by_parts_of-clause-asks : goal.structurally_relate_tys-returns-then-is_by_parts_of-clause-asks
 structurally_relate_tys-returns-then-is_by_parts_of-clause-asks g t c = λ promised directed d ts us over opens.
