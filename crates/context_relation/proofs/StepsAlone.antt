@@ -303,8 +303,8 @@ module _ {Key Id Name : Type 0} (r q : State Key Id Name) where
 pub asks_open : {Key Id Name X : Type 0} (r q : State Key Id Name) (a b : TyKey Key)
     (res : Result X (RelateFault Key Id Name)) → NotedTys r q a b res → AsksOfOver r q a b res →
     TysAskOpen solver_manner r q a b res
-asks_open r q a b (Err f) noted registers promised = tt
-asks_open r q a b (Ok x) noted registers promised directed d ts us over opens =
+asks_open r q a b (Err f) noted registers = λ promised. tt
+asks_open r q a b (Ok x) noted registers = λ promised directed d ts us over opens.
     let o = subst (λ st. HasOpenArgument (items_in r) st d ts ⊎ HasOpenArgument (items_in r) st d us) noted.store opens in
     let is = (registers d ts us over).both o in
     let one = goal_of r.kept.environment (well_formed_predicate ((r.meaning).ty a)) in
