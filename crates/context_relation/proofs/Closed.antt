@@ -24,6 +24,7 @@ use Rattle.relation_combining.specs.ClosedTerms.{IsClosed}
 use Rattle.context_relation.specs.Relating.{term_in, answered_goals}
 use Rattle.relation_semantics.specs.Lawful.{State, Manners, Related}
 use Rattle.relation_combining.proofs.ClosedTerms.{closed_alphabet, all_heads, closed_built, lacking_built, closed_binds, none_registered, never_needs}
+use Rattle.relation_combining.proofs.ClosedTerms.{bare_alphabet, bare_built, bare_binds}
 
 -- The same fault, of whatever was to be answered.
 pub needs_as : {X Key Id Name : Type 0} (P : Type 0) (res : Result X (RelateFault Key Id Name))
@@ -38,7 +39,8 @@ needs_as {X} {Key} {Id} {Name} P res f e h = subst (λ z. IfSpent z P) (sym e) (
 pub budget_verdict : {Key Id Name X : Type 0} {r q : State Key Id Name} (M : Manners) (v : Variance) (a b : Tree)
     (tree : X → Tree) (res : Result X (RelateFault Key Id Name)) → res ≡ Err Budget → Related M r q v a b tree res →
     ((q.store).budget ≡ 0) × NeedsVariable r.store a b
-budget_verdict {r = r} {q = q} M v a b tree res e h = (subst (Related M r q v a b tree) e h).verdict
+budget_verdict {r = r} {q = q} M v a b tree res e h =
+    let z = (subst (Related M r q v a b tree) e h).verdict in (z.0, z.1)
 
 module _ {S Key Id Name A : Type 0} (state : S → Context Key Id Name) (old new : S) (over : Option Head)
     (tree : Meaning Key Id Name → A → Tree) (a b : A) (sound : IsSound (state old).store)
@@ -60,9 +62,11 @@ module _ {S Key Id Name A : Type 0} (state : S → Context Key Id Name) (old new
     (built (closed_alphabet all_heads) (closed_built (term_in (state old) over tree a) p)
         (closed_built (term_in (state old) over tree b) q) (closed_binds all_heads (state old).store sound)).writes refl,
     never_spent p q result needs,
+    λ ha hb. (built bare_alphabet (bare_built (term_in (state old) over tree a) p ha)
+        (bare_built (term_in (state old) over tree b) q hb) (bare_binds (state old).store sound)).makes_none refl refl,
   )
 
-none_keyed : {Key Id Name : Type 0} (m : Meaning Key Id Name) (gs : List (KeyedGoal Key (PredicateKey Key))) →
+pub none_keyed : {Key Id Name : Type 0} (m : Meaning Key Id Name) (gs : List (KeyedGoal Key (PredicateKey Key))) →
     goals_of m gs ≡ [] → gs ≡ []
 none_keyed m [] q = refl
 none_keyed m (g ∷ gs) q = absurd cc

@@ -6,14 +6,11 @@
 --
 --   term_in c over tree x                    what is related of x in the context c
 --   KnowsTerm c over tree x                  it is known
---   TakesTerm c over tree x                  its binders bind by their lists
---   HasTerm c over tree x                    it is one of the context's terms
---   AreOne c over tree a b                   that of a and that of b are one
 --   Idle state old new result                no goal is answered, and nothing is recorded
 --   AnswersOnly state old new g e v result   only goals that relating registers are answered
 --   AnswersTerms .. e v a b result           sound: what satisfies the record after and makes the goals true relates a
 --                                            and b at v in e
---   KeepsEqual .. a b result                 no equal pair is lost
+--   KeepsEqual .. a b result                 no equal pair is lost, unless a type error says that there is none
 --   TellsApart .. a b result                 a type error says that no assignment made the two one
 --   AnswersError .. g v a b result           and which error it is, aliases being related as g says
 --   RelatesAgreeing .. g v a b result        where the two are related nothing in them clashes
@@ -23,7 +20,9 @@
 --   MakesToRelate .. a b                     which variables and universes are made
 --   BuildsNoMore .. a b result               of what all is built that is bound and registered
 --   AnswersAsked .. g e v a b result         two types of which one goal is asked are related by just that goal
-use Rattle.std.specs.Prelude.{◌≡◌, ◌+◌, ◌<◌, ◌≤◌, ℕ, List, [], ◌∷◌, Option, IsTrue, IfOk, Result, Ok, Err}
+--   TaintsForError .. a b result             of an error with another type that is recorded, and nothing else
+--   AsksIfOpen .. e v a b result             two types over one item are asked about where an argument is left open
+use Rattle.std.specs.Prelude.{◌≡◌, ◌≢◌, ◌⊎◌, ◌+◌, ◌<◌, ◌≤◌, ℕ, List, [], ◌∷◌, Contains, Option, IsTrue, IfOk, Result, Ok, Err}
 use Rattle.std.specs.Global.{Vec}
 use Rattle.term_enums.specs.declared.Variance.{Variance}
 use Rattle.term_enums.specs.declared.Variance.TheVariants.{Invariant}
@@ -34,26 +33,26 @@ use Rattle.relation_terms.specs.Heads.{Head}
 use Rattle.relation_terms.specs.Trees.{Tree, known}
 use Rattle.relation_terms.specs.Meaning.{Meaning}
 use Rattle.relation_folds.specs.declared.error.RelateFault.{RelateFault}
-use Rattle.relation_folds.specs.declared.error.RelateFault.TheVariants.{Memory}
+use Rattle.relation_folds.specs.declared.error.RelateFault.TheVariants.{Memory, Unrelated}
 use Rattle.relation_folds.specs.Faults.{IfUnrelated, IfSpent}
-use Rattle.relation_semantics.specs.Stores.{IsTermIn}
-use Rattle.relation_semantics.specs.Goals.{Goal as GoalOf, goals_of, goal_of}
-use Rattle.relation_semantics.specs.Steps.{MakesToInstantiate}
+use Rattle.relation_semantics.specs.Goals.{Goal as GoalOf, goals_of, goal_of, well_formed_predicate}
+use Rattle.relation_semantics.specs.Steps.{MakesToInstantiate, Taints}
 use Rattle.relation_semantics.specs.Alphabets.{StaysBuilt}
 use Rattle.relation_semantics.specs.FirstOrder.{IsFirstOrderStore}
-use Rattle.relation_semantics.specs.Outcomes.{NoEqualTerms, Exact, NoUnifier}
+use Rattle.relation_semantics.specs.Outcomes.{NoEqualTerms, Exact, NoUnifier, KeepsUnified}
 use Rattle.relation_semantics.specs.Headline.{AnswersGoals, KeepsEqualTerms, IsFirstOrderPair}
 use Rattle.relation_semantics.specs.OneUniverse.{IsPairOf, KeepsUniverseOf, all_unbound}
 use Rattle.relation_semantics.specs.Relation.{at}
 use Rattle.relation_semantics.specs.Errors.{ErrorOf}
 use Rattle.relation_semantics.specs.Agreeing.{Agree}
-use Rattle.relation_semantics.specs.Bound.{IsWellBound}
 use Rattle.relation_semantics.specs.Lawful.{items_of}
 use Rattle.relation_steps.specs.Arguments.{related_tree}
 use Rattle.relation_semantics.specs.Contexts.{Context, DoesNothing, RegistersGoals}
 use Rattle.term_enums.specs.declared.StructurallyRelateAliases.{StructurallyRelateAliases}
 use Rattle.relation_combining.specs.Solving.{solver_settings}
-use Rattle.relation_steps.specs.Alone.{OfAlone}
+use Rattle.relation_steps.specs.Alone.{OfTypes, OfAlone, OfError}
+use Rattle.relation_steps.specs.Arguments.{AreOverItem}
+use Rattle.relation_steps.specs.Bivariance.{HasOpenArgument}
 
 -- What is related of a value in a context.
 abbrev pub term_in : {Key Id Name A : Type 0} → Context Key Id Name → Option Head → (Meaning Key Id Name → A → Tree) →
@@ -66,18 +65,6 @@ module _ {Key Id Name A : Type 0} (c : Context Key Id Name) (over : Option Head)
     -- The interner knows the value.
     abbrev pub KnowsTerm : A → Type 0
     KnowsTerm x = IsTrue (known (term_in c over tree x))
-
-    -- It may be related: its binders bind by their lists.
-    abbrev pub TakesTerm : A → Type 0
-    TakesTerm x = IsWellBound (term_in c over tree x)
-
-    -- The variables in it are the context's, and nothing in it is of a later universe or escapes a binder.
-    abbrev pub HasTerm : A → Type 0
-    HasTerm x = IsTermIn c.store (term_in c over tree x)
-
-    -- Two are one.
-    abbrev pub AreOne : A → A → Type 0
-    AreOne a b = term_in c over tree a ≡ term_in c over tree b
 
 -- Between what a context is before the call and after it, which `state` shows.
 module _ {S Key Id Name : Type 0} (state : S → Context Key Id Name) (old new : S) where
@@ -104,10 +91,13 @@ module _ {S Key Id Name A : Type 0} (state : S → Context Key Id Name) (old new
   AnswersTerms e v a b result = IfOk result (λ goals. AnswersGoals (items_of (state old).meaning) (state old).store
       (state new).store (goals_of (state new).meaning goals.items) (((state old).meaning).param_env e) v (term a) (term b))
 
-  -- No equal pair is lost, where the two are related.
+  -- No equal pair is lost, where the two are related, and where relating them stopped for want of memory or of
+  -- instantiations.
   abbrev pub KeepsEqual : A → A → Result (Vec (Goal Key (PredicateKey Key))) (RelateFault Key Id Name) → Type 0
-  KeepsEqual a b result = IfOk result (λ goals. KeepsEqualTerms (state old).store (state new).store
-      (goals_of (state new).meaning goals.items) (term a) (term b))
+  KeepsEqual a b (Ok goals) = KeepsEqualTerms (state old).store (state new).store
+      (goals_of (state new).meaning goals.items) (term a) (term b)
+  KeepsEqual a b (Err (Unrelated e)) = Unit {0}
+  KeepsEqual a b (Err f) = KeepsEqualTerms (state old).store (state new).store [] (term a) (term b)
 
   -- No assignment made the two one, where they are not related.
   abbrev pub TellsApart : {X : Type 0} → A → A → Result X (RelateFault Key Id Name) → Type 0
@@ -143,13 +133,15 @@ module _ {S Key Id Name A : Type 0} (state : S → Context Key Id Name) (old new
 
   -- Exact, of first-order terms in a first-order record at invariance: just the solutions that unify them stay, up to
   -- erasure, the record stays first-order, and in one universe what was in one, with no more variables; and no goal is
-  -- answered.
+  -- answered. Where it stopped for want of memory or of instantiations, none of these solutions is lost.
   abbrev pub AnswersExactly : Variance → A → A → Result (Vec (Goal Key (PredicateKey Key))) (RelateFault Key Id Name) →
       Type 0
-  AnswersExactly v a b result = IfOk result (λ goals. v ≡ Invariant →
-      IsFirstOrderPair (state old).store (term a) (term b) →
+  AnswersExactly v a b (Ok goals) = v ≡ Invariant → IsFirstOrderPair (state old).store (term a) (term b) →
       Exact (state old).store (state new).store (term a) (term b) × IsFirstOrderStore (state new).store ×
-      KeepsUniverseOf (state old).store (state new).store (term a) (term b) × (goals.items ≡ []))
+      KeepsUniverseOf (state old).store (state new).store (term a) (term b) × (goals.items ≡ [])
+  AnswersExactly v a b (Err (Unrelated e)) = Unit {0}
+  AnswersExactly v a b (Err f) = v ≡ Invariant → IsFirstOrderPair (state old).store (term a) (term b) →
+      KeepsUnified (state old).store (state new).store (term a) (term b)
 
   -- A type error of such terms says that nothing unified them, up to erasure.
   abbrev pub ProvesApart : {X : Type 0} → Variance → A → A → Result X (RelateFault Key Id Name) → Type 0
@@ -180,3 +172,20 @@ module _ {S Key Id Name A : Type 0} (state : S → Context Key Id Name) (old new
       Result (Vec (Goal Key (PredicateKey Key))) (RelateFault Key Id Name) → Type 0
   AnswersAsked g e v a b result = OfAlone (solver_settings g (state old).setup) (state old).store v (term a) (term b)
       (λ t p. AnswersAlone e p result)
+
+  -- Of two different types of which one is an error and none a type variable, as they are read at once, it is recorded that
+  -- an error was met, and nothing else, and no goal is answered. So it is where a growth was refused.
+  abbrev pub TaintsForError : A → A → Result (Vec (Goal Key (PredicateKey Key))) (RelateFault Key Id Name) → Type 0
+  TaintsForError a b result = OfError (state old).store (term a) (term b)
+      (Taints (state old).store (state new).store × IfOk result (λ goals. goals.items ≡ []))
+
+  -- Of two different types that are read as types over one item, related at covariance or contravariance, goals ask whether
+  -- each is well formed, where an argument of either that the item declares bivariant is left open by what is recorded then.
+  abbrev pub AsksIfOpen : ParamEnvKey Key → Variance → A → A →
+      Result (Vec (Goal Key (PredicateKey Key))) (RelateFault Key Id Name) → Type 0
+  AsksIfOpen e v a b result = OfTypes (state old).store (term a) (term b) (λ x y. IfOk result (λ goals.
+      let c = items_of (state old).meaning in let st = (state new).store in
+      let gs = goals_of (state new).meaning goals.items in let env = ((state old).meaning).param_env e in
+      v ≢ Invariant → (d : ℕ) (ts us : Tree) → AreOverItem d x y ts us →
+      HasOpenArgument c st d ts ⊎ HasOpenArgument c st d us →
+      Contains gs (goal_of env (well_formed_predicate x)) × Contains gs (goal_of env (well_formed_predicate y))))

@@ -3,7 +3,7 @@ ghost use Rattle.std.specs.Prelude.{◌≢◌, []};
 ghost use Rattle.term_enums.specs.declared.Variance.TheVariants.{Invariant};
 ghost use Rattle.term_enums.specs.declared.StructurallyRelateAliases.TheVariants.{No, Yes};
 ghost use Rattle.relation_semantics.specs.Contexts.{KnowsEnv};
-ghost use Rattle.context_relation.specs.Relating.{AnswersAsked};
+ghost use Rattle.context_relation.specs.Relating.{AnswersAsked, TaintsForError, AsksIfOpen};
 ghost use Rattle.context_relation.specs.Completing.{Complete, RelatesWhereAsked};
 ghost use Rattle.context_relation.specs.Closed.{LeavesClosed, AsksNothing, SpendsForVariables};
 ghost use Rattle.relation_steps.specs.Terms.{AskedTerms, RelatedTerms, TermsRegister};
@@ -57,7 +57,8 @@ pub trait RelateExt: InferCtxtLike {
     /// of aliases is so, and `Unrelated` only of such that are related nowhere; `Budget` never comes, also where none
     /// is left. Of two without binders and aliases `Ok` says just where they are related: where the constraints hold
     /// that they ask for. Whatever is closed, so that no variable stands in it but of regions, and no binder binds
-    /// others, binds and spends nothing, and makes no variable but of regions; and without aliases no goal is asked.
+    /// others, binds and spends nothing, and makes no variable but of regions, without binders none; and without
+    /// aliases no goal is asked.
     ///
     /// Of two bare terms, which are first-order but for aliases, have no variable but of regions,
     /// and no alias unless aliases are left to goals, `Ok` has recorded just the constraints that
@@ -73,11 +74,20 @@ pub trait RelateExt: InferCtxtLike {
     /// Both stand there by their roots, and the first is the expected one. So does an alias with another type, where
     /// aliases are left to goals, and neither is an error or a type variable, at each variance: that goal alone.
     ///
+    /// Of two different types of which one is an error and neither a type variable, as they are read by what is
+    /// recorded, it is recorded that an error was met, and nothing else, also where a growth was refused; and no goal is
+    /// answered.
+    ///
+    /// Of two different types over one item, as they are read, both goals that they are well formed are answered at
+    /// `Covariant` and `Contravariant`, where a variable but of a region is left in an argument of either that the item
+    /// declares bivariant.
+    ///
     /// Answers `Unrelated` only where no assignment that satisfied what was recorded makes the two one: with the error
     /// of the two, or of two parts that stand at one place, the left side's first; or of a variable that can't be bound
     /// to the other side, in which it stands itself, or a placeholder that it can't name. Of first-order terms in a
     /// first-order record at `Invariant` no solution up to erasure unifies them then. Answers `Budget` only where no
-    /// instantiation is left, and `Memory` where a growth was refused.
+    /// instantiation is left, and `Memory` where a growth was refused. These two lose no solution: what made the two
+    /// one extends to what is recorded then, and who asks again with more gets the answer.
     ///
     /// On each outcome all that was recorded stands. It makes no variable of a number, and others only to instantiate
     /// one or to open a binder: none where no binder stands in either or in what a variable was bound to, and nothing
@@ -112,7 +122,9 @@ pub trait RelateExt: InferCtxtLike {
         ensures met { RelatesWhereAsked Self.state self.old self.new T.over T.tree param_env variance lhs rhs result }
         ensures closed { LeavesClosed Self.state self.old self.new T.over T.tree lhs rhs result }
         ensures no_goals { AsksNothing Self.state self.old self.new T.over T.tree lhs rhs result }
-        ensures alone { AnswersAsked Self.state self.old self.new T.over T.tree No param_env variance lhs rhs result };
+        ensures alone { AnswersAsked Self.state self.old self.new T.over T.tree No param_env variance lhs rhs result }
+        ensures taints { TaintsForError Self.state self.old self.new T.over T.tree lhs rhs result }
+        ensures asks_open { AsksIfOpen Self.state self.old self.new T.over T.tree param_env variance lhs rhs result };
 
     /// Relates two at `Invariant`, aliases by their items and arguments: what `relate` relates, but that no alias is
     /// left to a goal, and none gives way to a variable where a variable is bound to what it stands in. All that
@@ -135,7 +147,8 @@ pub trait RelateExt: InferCtxtLike {
         ensures complete { Complete Self.state self.old self.new T.over T.tree Yes param_env Invariant lhs rhs result }
         ensures met { RelatesWhereAsked Self.state self.old self.new T.over T.tree param_env Invariant lhs rhs result }
         ensures closed { LeavesClosed Self.state self.old self.new T.over T.tree lhs rhs result }
-        ensures no_goals { AsksNothing Self.state self.old self.new T.over T.tree lhs rhs result };
+        ensures no_goals { AsksNothing Self.state self.old self.new T.over T.tree lhs rhs result }
+        ensures taints { TaintsForError Self.state self.old self.new T.over T.tree lhs rhs result };
 }
 
 impl<Infcx: InferCtxtLike> RelateExt for Infcx {
@@ -158,6 +171,8 @@ impl<Infcx: InferCtxtLike> RelateExt for Infcx {
         ensures closed { LeavesClosed Infcx.state self.old self.new T.over T.tree lhs rhs result }
         ensures no_goals { AsksNothing Infcx.state self.old self.new T.over T.tree lhs rhs result }
         ensures alone { AnswersAsked Infcx.state self.old self.new T.over T.tree No param_env variance lhs rhs result }
+        ensures taints { TaintsForError Infcx.state self.old self.new T.over T.tree lhs rhs result }
+        ensures asks_open { AsksIfOpen Infcx.state self.old self.new T.over T.tree param_env variance lhs rhs result }
     {
         relate_as(
             self,
@@ -187,6 +202,7 @@ impl<Infcx: InferCtxtLike> RelateExt for Infcx {
         ensures met { RelatesWhereAsked Infcx.state self.old self.new T.over T.tree param_env Invariant lhs rhs result }
         ensures closed { LeavesClosed Infcx.state self.old self.new T.over T.tree lhs rhs result }
         ensures no_goals { AsksNothing Infcx.state self.old self.new T.over T.tree lhs rhs result }
+        ensures taints { TaintsForError Infcx.state self.old self.new T.over T.tree lhs rhs result }
     {
         relate_as(
             self,
@@ -218,6 +234,8 @@ fn relate_as<Infcx: InferCtxtLike, T: Relate<Infcx::Interner>>(
     ensures leaves { LeavesRest Infcx.state infcx.old infcx.new T.over T.tree lhs rhs result }
     ensures alone { let e = param_env in
         AnswersAsked Infcx.state infcx.old infcx.new T.over T.tree aliases e variance lhs rhs result }
+    ensures taints { TaintsForError Infcx.state infcx.old infcx.new T.over T.tree lhs rhs result }
+    ensures asks_open { AsksIfOpen Infcx.state infcx.old infcx.new T.over T.tree param_env variance lhs rhs result }
     ensures needs { SpendsForVariables Infcx.state infcx.old infcx.new T.over T.tree lhs rhs result }
 {
     if lhs == rhs {

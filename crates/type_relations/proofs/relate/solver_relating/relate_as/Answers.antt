@@ -16,9 +16,10 @@ use Rattle.relation_semantics.proofs.Passing.{as_err}
 use Rattle.relation_combining.proofs.Exactly.{unrelated_apart}
 use Rattle.context_relation.proofs.Spending.{spends_no_more, spent_as}
 use Rattle.context_relation.specs.Relating.{term_in}
-use Rattle.relation_steps.specs.Alone.{RelatesAlone}
+use Rattle.relation_steps.specs.Alone.{RelatesAtOnce}
 use Rattle.relation_recursion.proofs.RelatableValues.{equal_one, one_equal}
-use Rattle.context_relation.proofs.Relating.{answered_alone_in, refused_alone_in, refused_built}
+use Rattle.context_relation.proofs.Relating.{answered_alone_in, refused_alone_in, answered_taints, refused_taints, answered_open, refused_open, refused_built}
+use Rattle.context_relation.proofs.Relating.{keeps_by, unified_by, refused_keeps, refused_exactly}
 use Rattle.relation_semantics.specs.Alphabets.{StaysBuilt, NeedsVariable}
 use Rattle.relation_semantics.proofs.Building.{built_itself}
 use Rattle.relation_combining.proofs.OverContext.{all_taken}
@@ -145,6 +146,22 @@ returns-then-eq-clause-alone g c =
     k.lhs_known k.rhs_known (sym c.if-eq.ensures) in
     λ differ s t x y p i j asks. absurd (differ one)
 
+pub returns-then-eq-clause-taints : goal.returns-then-eq-clause-taints
+returns-then-eq-clause-taints g c =
+    let k = c.requires.can in
+    let one = equal_one (g.met.Infcx.InferCtxtLike.reads c.args.infcx.now) g.T.Relate.over g.T.HasTree.tree
+    g.T.PartialEq.eq (g.met.T.Relate.same (g.Infcx.InferCtxtLike.interner c.args.infcx.now)) c.args.lhs c.args.rhs
+    k.lhs_known k.rhs_known (sym c.if-eq.ensures) in
+    λ differ s t x y i j n m o. absurd (differ one)
+
+pub returns-then-eq-clause-asks_open : goal.returns-then-eq-clause-asks_open
+returns-then-eq-clause-asks_open g c =
+    let k = c.requires.can in
+    let one = equal_one (g.met.Infcx.InferCtxtLike.reads c.args.infcx.now) g.T.Relate.over g.T.HasTree.tree
+    g.T.PartialEq.eq (g.met.T.Relate.same (g.Infcx.InferCtxtLike.interner c.args.infcx.now)) c.args.lhs c.args.rhs
+    k.lhs_known k.rhs_known (sym c.if-eq.ensures) in
+    λ differ s t x y i j. absurd (differ one)
+
 -- Of two that were refused the fault is handed on.
 pub returns-in_err-related-clause-both : goal.returns-in_err-related-clause-both
 returns-in_err-related-clause-both g c =
@@ -164,11 +181,28 @@ returns-in_err-related-clause-both g c =
 
 pub returns-in_err-related-clause-loses_none : goal.returns-in_err-related-clause-loses_none
 returns-in_err-related-clause-loses_none g c =
+    let state = g.Infcx.InferCtxtLike.state in
+    let s = state c.args.infcx.now in
+    let d = state c.relate_in-related.new.infcx in
+    let e = c.args.param_env in
+    let v = c.args.variance in
+    let a = term_in s g.T.Relate.over g.T.HasTree.tree c.args.lhs in
+    let b = term_in s g.T.Relate.over g.T.HasTree.tree c.args.rhs in
+    let tree = term_in d g.T.Relate.over g.T.HasTree.tree in
+    let hs = c.relate_in-related.result.1.items in
+    let was = solving_in c.args.aliases [] s v e in
+    let then = solving_in c.args.aliases hs d v e in
     let f = c.in_err-related.field-0.0 in
     let is = as_err c.from_residual.result f c.from_residual.ensures.0 c.from_residual.ensures.1 in
+    let related = subst (λ z. Related solver_manner was then v a b tree z) c.in_err-related.was c.relate_in-related.ensures.related in
+    let refused : RefusesAs as_pair was then (at v) a b f = related.verdict in
     record {
-      keeps = none_answered _ c.from_residual.result f is;
-      most_general = none_answered _ c.from_residual.result f is;
+      keeps = refused_keeps state c.args.infcx.now c.relate_in-related.new.infcx g.T.Relate.over g.T.HasTree.tree v
+          c.args.lhs c.args.rhs f c.from_residual.result is (keeps_by as_pair was then (at v) a b f refused);
+      most_general = refused_exactly state c.args.infcx.now c.relate_in-related.new.infcx g.T.Relate.over
+          g.T.HasTree.tree v c.args.lhs c.args.rhs f c.from_residual.result is
+          (λ is pair. unified_by tree s.store d.store a b f (subst (ExactResult s.store d.store a b)
+          c.in_err-related.was ((c.relate_in-related.ensures.related).exact tt is pair)));
     }
 
 pub returns-in_err-related-clause-fault : goal.returns-in_err-related-clause-fault
@@ -252,10 +286,29 @@ returns-in_err-related-clause-alone g c =
     refused_alone_in c.args.aliases ⊥ g.Infcx.InferCtxtLike.state c.args.infcx.now c.relate_in-related.new.infcx g.T.Relate.over
     g.T.HasTree.tree c.args.param_env c.args.variance c.args.lhs c.args.rhs c.relate_in-related.result.1.items
     f c.from_residual.result (as_err c.from_residual.result f c.from_residual.ensures.0 c.from_residual.ensures.1)
-    (subst (RelatesAlone solver_manner (solving_in c.args.aliases [] s c.args.variance c.args.param_env)
+    (subst (RelatesAtOnce solver_manner (solving_in c.args.aliases [] s c.args.variance c.args.param_env)
     (solving_in c.args.aliases c.relate_in-related.result.1.items (g.Infcx.InferCtxtLike.state c.relate_in-related.new.infcx)
     c.args.variance c.args.param_env) c.args.variance (term_in s g.T.Relate.over g.T.HasTree.tree c.args.lhs)
     (term_in s g.T.Relate.over g.T.HasTree.tree c.args.rhs)) c.in_err-related.was c.relate_in-related.ensures.registers)
+
+pub returns-in_err-related-clause-taints : goal.returns-in_err-related-clause-taints
+returns-in_err-related-clause-taints g c =
+    let s = g.Infcx.InferCtxtLike.state c.args.infcx.now in
+    let f = c.in_err-related.field-0.0 in
+    refused_taints c.args.aliases g.Infcx.InferCtxtLike.state c.args.infcx.now c.relate_in-related.new.infcx g.T.Relate.over
+    g.T.HasTree.tree c.args.param_env c.args.variance c.args.lhs c.args.rhs c.relate_in-related.result.1.items
+    f c.from_residual.result (as_err c.from_residual.result f c.from_residual.ensures.0 c.from_residual.ensures.1)
+    (subst (RelatesAtOnce solver_manner (solving_in c.args.aliases [] s c.args.variance c.args.param_env)
+    (solving_in c.args.aliases c.relate_in-related.result.1.items (g.Infcx.InferCtxtLike.state c.relate_in-related.new.infcx)
+    c.args.variance c.args.param_env) c.args.variance (term_in s g.T.Relate.over g.T.HasTree.tree c.args.lhs)
+    (term_in s g.T.Relate.over g.T.HasTree.tree c.args.rhs)) c.in_err-related.was c.relate_in-related.ensures.registers).1
+
+pub returns-in_err-related-clause-asks_open : goal.returns-in_err-related-clause-asks_open
+returns-in_err-related-clause-asks_open g c =
+    let f = c.in_err-related.field-0.0 in
+    refused_open g.Infcx.InferCtxtLike.state c.args.infcx.now c.relate_in-related.new.infcx g.T.Relate.over
+    g.T.HasTree.tree c.args.param_env c.args.variance c.args.lhs c.args.rhs f c.from_residual.result
+    (as_err c.from_residual.result f c.from_residual.ensures.0 c.from_residual.ensures.1)
 
 pub returns-in_err-related-clause-needs : goal.returns-in_err-related-clause-needs
 returns-in_err-related-clause-needs g c =
@@ -387,7 +440,29 @@ returns-clause-alone g c =
     answered_alone_in c.args.aliases g.Infcx.InferCtxtLike.state c.args.infcx.now c.relate_in-related.new.infcx
     g.T.Relate.over g.T.HasTree.tree c.args.param_env c.args.variance c.args.lhs c.args.rhs c.relate_in-related.result.1
     c.in_ok-related.field-0
-    (subst (RelatesAlone solver_manner (solving_in c.args.aliases [] s c.args.variance c.args.param_env)
+    (subst (RelatesAtOnce solver_manner (solving_in c.args.aliases [] s c.args.variance c.args.param_env)
+    (solving_in c.args.aliases c.relate_in-related.result.1.items (g.Infcx.InferCtxtLike.state c.relate_in-related.new.infcx)
+    c.args.variance c.args.param_env) c.args.variance (term_in s g.T.Relate.over g.T.HasTree.tree c.args.lhs)
+    (term_in s g.T.Relate.over g.T.HasTree.tree c.args.rhs)) c.in_ok-related.was c.relate_in-related.ensures.registers)
+
+pub returns-clause-taints : goal.returns-clause-taints
+returns-clause-taints g c =
+    let s = g.Infcx.InferCtxtLike.state c.args.infcx.now in
+    answered_taints c.args.aliases g.Infcx.InferCtxtLike.state c.args.infcx.now c.relate_in-related.new.infcx
+    g.T.Relate.over g.T.HasTree.tree c.args.param_env c.args.variance c.args.lhs c.args.rhs c.relate_in-related.result.1
+    c.in_ok-related.field-0
+    (subst (RelatesAtOnce solver_manner (solving_in c.args.aliases [] s c.args.variance c.args.param_env)
+    (solving_in c.args.aliases c.relate_in-related.result.1.items (g.Infcx.InferCtxtLike.state c.relate_in-related.new.infcx)
+    c.args.variance c.args.param_env) c.args.variance (term_in s g.T.Relate.over g.T.HasTree.tree c.args.lhs)
+    (term_in s g.T.Relate.over g.T.HasTree.tree c.args.rhs)) c.in_ok-related.was c.relate_in-related.ensures.registers)
+
+pub returns-clause-asks_open : goal.returns-clause-asks_open
+returns-clause-asks_open g c =
+    let s = g.Infcx.InferCtxtLike.state c.args.infcx.now in
+    answered_open c.args.aliases g.Infcx.InferCtxtLike.state c.args.infcx.now c.relate_in-related.new.infcx
+    g.T.Relate.over g.T.HasTree.tree c.args.param_env c.args.variance c.args.lhs c.args.rhs c.relate_in-related.result.1
+    c.in_ok-related.field-0
+    (subst (RelatesAtOnce solver_manner (solving_in c.args.aliases [] s c.args.variance c.args.param_env)
     (solving_in c.args.aliases c.relate_in-related.result.1.items (g.Infcx.InferCtxtLike.state c.relate_in-related.new.infcx)
     c.args.variance c.args.param_env) c.args.variance (term_in s g.T.Relate.over g.T.HasTree.tree c.args.lhs)
     (term_in s g.T.Relate.over g.T.HasTree.tree c.args.rhs)) c.in_ok-related.was c.relate_in-related.ensures.registers)
