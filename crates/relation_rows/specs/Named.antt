@@ -1,4 +1,4 @@
--- Which words the program knows: the names of rows, and one that asks how it is used.
+-- The names of rows.
 use Rattle.std.specs.Prelude.{◌≡◌, ◌⊎◌, ℕ, List, codes}
 
 -- A row below r17 has that name.
@@ -43,7 +43,3 @@ IsTopRow name =
 -- A row has that name.
 abbrev pub IsRow : List ℕ → Type 0
 IsRow name = IsLowRow name ⊎ (IsMiddleRow name ⊎ (IsUpperRow name ⊎ (IsHighRow name ⊎ IsTopRow name)))
-
--- A word asks how the program is used.
-abbrev pub IsHelp : List ℕ → Type 0
-IsHelp word = word ≡ codes "--help"

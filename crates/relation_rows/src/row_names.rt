@@ -1,6 +1,6 @@
-//! Which words the program knows: the names of rows, and one that asks how it is used.
+//! The names of rows.
 ghost use Rattle.std.specs.Prelude.{◌↔◌, IsTrue};
-ghost use Rattle.relation_rows.specs.Named.{IsHelp, IsHighRow, IsLowRow, IsMiddleRow, IsRow, IsTopRow, IsUpperRow};
+ghost use Rattle.relation_rows.specs.Named.{IsHighRow, IsLowRow, IsMiddleRow, IsRow, IsTopRow, IsUpperRow};
 
 // Whether a row below r17 has that name.
 fn is_low_row(name: &str) -> bool
@@ -112,11 +112,4 @@ pub fn is_row(name: &str) -> bool
         || is_upper_row(name)
         || is_high_row(name)
         || is_top_row(name)
-}
-
-/// Whether a word asks how the program is used.
-pub fn is_help(word: &str) -> bool
-    ensures { IsTrue result ↔ IsHelp word.now }
-{
-    word == "--help"
 }

@@ -1,13 +1,15 @@
 //! How rows are asked, and the program's runs.
 ghost use Rattle.std.specs.Prelude.{◌≡◌, ◌<◌, ◌≤◌, IfSome, length, slice_get, string_bytes};
-ghost use Rattle.relation_rows.specs.Named.{IsHelp, IsRow};
+ghost use Rattle.relation_rows.specs.Named.{IsRow};
+ghost use Rattle.text_asking.specs.Programs.{IsHelp};
 
 use crate::calls::call;
-use crate::row_names::{is_help, is_row};
+use crate::row_names::is_row;
 use crate::rows::{EARLY_ROWS, LATE_ROWS, Row};
 use std::alloc::Global;
 use std::io;
 use text_asking::ask_all;
+use text_asking::programs::{WRONG, is_help, status_of};
 use text_reading::naming::{NameError, look_up};
 use text_reading::reading::{ReadError, read};
 use text_reading::telling::{Lines, tell_unnamed, tell_unread};
@@ -211,19 +213,6 @@ fn write_help<W: io::Write>(out: &mut W) -> io::Result<()> {
     write_names(out)
 }
 
-// Prints how the program is used. The status is 1 if a write failed: then `err` is told why.
-fn print_help<O: io::Write, E: io::Write>(out: &mut O, err: &mut E) -> u8
-    ensures { result ≤ 1 }
-{
-    match write_help(out) {
-        Ok(()) => 0,
-        Err(error) => {
-            let _ = writeln!(err, "standard output: {error}");
-            1
-        }
-    }
-}
-
 // Tells that no row has that name, and which names they have.
 fn write_unknown<W: io::Write>(name: &str, out: &mut W) -> io::Result<()> {
     writeln!(out, "unknown row: {name}")?;
@@ -250,17 +239,17 @@ pub fn run<O: io::Write, E: io::Write>(
 {
     if words.len() > 1 {
         let _ = write_usage(err);
-        return 2;
+        return WRONG;
     }
     let Some(name) = words.first() else {
         return print_rows(alloc, None, out, err);
     };
     if is_help(name.as_str()) {
-        return print_help(out, err);
+        return status_of(write_help(out), err);
     }
     if !is_row(name.as_str()) {
         let _ = write_unknown(name.as_str(), err);
-        return 2;
+        return WRONG;
     }
     print_rows(alloc, Some(name.as_str()), out, err)
 }

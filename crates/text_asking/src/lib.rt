@@ -17,6 +17,7 @@ mod interner;
 mod lists;
 mod outliving;
 pub mod printing;
+pub mod programs;
 mod question;
 mod quick;
 mod regions;

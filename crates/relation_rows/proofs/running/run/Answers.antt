@@ -1,6 +1,7 @@
 use Rattle.std.proofs.Common.{◌≡◌, subst, sym, rules}
 use Rattle.std.specs.Prelude.{IfSome, Some, slice_get, string_bytes}
-use Rattle.relation_rows.specs.Named.{IsHelp, IsRow}
+use Rattle.relation_rows.specs.Named.{IsRow}
+use Rattle.text_asking.specs.Programs.{IsHelp}
 use Rattle.relation_rows.proofs.running.run.Goals as goal
 
 -- A name that was found to be a row's is one.
