@@ -27,7 +27,9 @@ use relation_folds::error::RelateFault;
 use relation_folds::visit::{has_escaping_bound_vars, has_non_region_infer, is_known_rigid};
 use relation_reference::context::RefCtxt;
 use relation_terms::predicate::OutlivesPredicate;
-use relation_terms::terms::{GenericArg, GenericArgKind, Interner, Keys, LocalDefIds, TraitId, Ty};
+use relation_terms::terms::{
+    GenericArg, GenericArgKind, Interner, Keys, LocalDefIds, OutOfMemory, TraitId, Ty,
+};
 use relation_tools::outlives::Component;
 use std::alloc::Global;
 use text_coherence::overlapping::WhyNot;
@@ -68,6 +70,12 @@ pub(super) enum Unasked {
     NotAsked(NotAsked),
     // Why two impls are not asked about.
     Impls(WhyNot),
+}
+
+impl From<OutOfMemory> for Unasked {
+    fn from(_refused: OutOfMemory) -> Unasked {
+        Unasked::Memory
+    }
 }
 
 // What is answered to a question.
