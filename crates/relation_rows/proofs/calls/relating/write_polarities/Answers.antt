@@ -1,7 +1,8 @@
 use Rattle.std.proofs.Common.{rules}
 use Rattle.relation_terms.proofs.Stays.{extends_on}
 use Rattle.variable_tables.proofs.Grows.{lawful_grows}
-use Rattle.relation_rows.proofs.Related.{over_in, related_known}
+use Rattle.text_asking.proofs.RelatedLemmas.{related_known}
+use Rattle.relation_rows.proofs.Related.{over_in}
 use Rattle.relation_rows.proofs.calls.relating.write_polarities.Goals as goal
 
 pub relate-answer-requires : goal.relate-answer-requires
