@@ -3,6 +3,5 @@
 
 mod calls;
 mod doubling;
-mod row_names;
 pub mod rows;
 pub mod running;
