@@ -30,14 +30,14 @@ mod writing;
 use answer_text::AnswerText;
 use depth::{Counts, Depths};
 use growth::Growths;
-use interner::{Tables, make_interner, make_tables};
+use interner::state;
 use question::{Ready, ask_unless, context_for};
+use reference_interner::RefInterner;
 use relation_reference::context::RefCtxt;
 use relation_semantics::infer_ctxt::TypingMode;
 use sized_keys::SizedKeys;
 use std::alloc::Global;
 use std::fmt::{self, Write};
-use text_elaboration::stating::state_all;
 use text_needs::binding::uses_of;
 pub use text_needs::needs;
 use text_needs::needs::needs_of;
@@ -184,17 +184,20 @@ pub fn ask_all<W: Write>(
     between: &str,
     out: &mut W,
 ) -> fmt::Result {
-    let Ok((mut interner, ids)) = make_interner(alloc, program) else {
+    let mut interner = RefInterner::new(alloc);
+    let Ok(stated) = state(&mut interner, program) else {
         return refuse_all(program, between, out);
     };
-    let Ok(tables) = make_tables(alloc, program, &ids) else {
-        return refuse_all(program, between, out);
-    };
-    let Tables { names, texts } = tables;
-    match state_all(&mut interner, &ids, &names, program) {
-        Ok(true) => {}
-        Ok(false) => return answer_all(program, NOT_OWN, between, out),
-        Err(_) => return refuse_all(program, between, out),
+    if !stated.own {
+        return answer_all(program, NOT_OWN, between, out);
     }
-    ask_over(interner, &ids, &names, &texts, program, between, out)
+    ask_over(
+        interner,
+        &stated.ids,
+        &stated.names,
+        &stated.texts,
+        program,
+        between,
+        out,
+    )
 }
