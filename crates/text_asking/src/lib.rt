@@ -36,7 +36,7 @@ use reference_interner::RefInterner;
 use relation_reference::context::RefCtxt;
 use relation_semantics::infer_ctxt::TypingMode;
 use sized_keys::SizedKeys;
-use std::alloc::Global;
+use std::alloc::{AllocError, Global};
 use std::fmt::{self, Write};
 use text_needs::binding::uses_of;
 pub use text_needs::needs;
@@ -60,6 +60,28 @@ fn separate<W: Write>(any: bool, between: &str, out: &mut W) -> fmt::Result {
     Ok(())
 }
 
+// What is kept from question to question beside their context.
+#[derive(Drop)]
+struct Kept {
+    text: AnswerText,
+    depths: Depths,
+    growths: Growths,
+}
+
+impl Kept {
+    // Before the first question.
+    fn new(alloc: Global, program: &Program) -> Result<Kept, AllocError> {
+        let text = AnswerText::new(alloc)?;
+        let depths = Depths::new(alloc, program)?;
+        let growths = Growths::new(alloc, program)?;
+        Ok(Kept {
+            text,
+            depths,
+            growths,
+        })
+    }
+}
+
 // Asks all questions over terms that are ready.
 fn ask_ready<I: SizedKeys + Drop, W: Write>(
     interner: I,
@@ -75,17 +97,10 @@ fn ask_ready<I: SizedKeys + Drop, W: Write>(
     let Ok(made) = RefCtxt::new(interner, TypingMode::PostAnalysis, true, BUDGET) else {
         return refuse_all(program, between, out);
     };
-    let Ok(room) = AnswerText::new(alloc) else {
+    let Ok(begun) = Kept::new(alloc, program) else {
         return refuse_all(program, between, out);
     };
-    let Ok(begun) = Depths::new(alloc, program) else {
-        return refuse_all(program, between, out);
-    };
-    let Ok(growths) = Growths::new(alloc, program) else {
-        return refuse_all(program, between, out);
-    };
-    let mut depths = begun;
-    let mut text = room;
+    let mut kept = begun;
     let mut ctx = made;
     let mut any = false;
     for question in &program.questions {
@@ -95,11 +110,11 @@ fn ask_ready<I: SizedKeys + Drop, W: Write>(
             types: asked.inner.types.len(),
             consts: asked.inner.consts.len(),
         };
-        let why_not = depths.refusal(program, terms.needs, question, counts);
-        let bounded = growths.bounded(program, question);
+        let why_not = kept.depths.refusal(program, terms.needs, question, counts);
+        let bounded = kept.growths.bounded(program, question);
         let (left, outcome) = ask_unless(asked, terms, &bounded.question, why_not);
         ctx = left;
-        write_whole(&ctx, texts, &bounded, &outcome, &mut text, out)?;
+        write_whole(&ctx, texts, &bounded, &outcome, &mut kept.text, out)?;
         any = true;
     }
     Ok(())
