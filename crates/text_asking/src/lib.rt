@@ -52,14 +52,6 @@ const NOT_OWN: &str = "not asked: what a trait states is to bind its variables i
 /// How many instantiations a context may make where nothing is said of it.
 pub const BUDGET: usize = 100;
 
-// Writes what stands between two answers, before each but the first.
-fn separate<W: Write>(any: bool, between: &str, out: &mut W) -> fmt::Result {
-    if any {
-        return out.write_str(between);
-    }
-    Ok(())
-}
-
 // What is kept from question to question beside their context.
 #[derive(Drop)]
 struct Kept {
@@ -104,7 +96,7 @@ fn ask_ready<I: SizedKeys + Drop, W: Write>(
     let mut ctx = made;
     let mut any = false;
     for question in &program.questions {
-        separate(any, between, out)?;
+        out.write_str(if any { between } else { "" })?;
         let asked = context_for(ctx, terms, question);
         let counts = Counts {
             types: asked.inner.types.len(),
@@ -129,7 +121,7 @@ fn answer_all<W: Write>(
 ) -> fmt::Result {
     let mut any = false;
     for _ in &program.questions {
-        separate(any, between, out)?;
+        out.write_str(if any { between } else { "" })?;
         out.write_str(answer)?;
         any = true;
     }
