@@ -1,5 +1,5 @@
 //! Answers to the questions of a text, or what is wrong with it.
-ghost use Rattle.std.specs.Prelude.{◌≤◌};
+ghost use Rattle.std.specs.Prelude.{◌≡◌, ◌≤◌, ◌↔◌, IsTrue, codes};
 
 use std::alloc::Global;
 use std::fmt::{self, Write};
@@ -13,11 +13,26 @@ use text_reading::telling::{Lines, tell_unnamed, tell_unread};
 /// What standard input is called where a file's name stands.
 pub const STDIN: &str = "stdin";
 
+// How the program is used.
+const USAGE: &str = "usage: ask [FILE]\n";
+
+// What its status says, and where the language is told.
+const HELP: &str = "\
+Answers the questions of a file, or of standard input for `-` or no word, each on a line of its own.
+The status is 0 where all was asked, 2 where the text is wrong or can't be read, 1 where an answer can't be written.
+pages:
+  docs/QUESTIONS.md    how questions are written, and how answers are read
+  docs/DEFINITIONS.md  what it means that two terms are related
+  docs/PROVED.md       what is proved of answers, and what is not
+";
+
 // One byte more than a text may have: then it is seen that a text has too many.
 const ENOUGH: u64 = 1_048_577;
 
 /// Whether that word stands for standard input.
-pub fn is_stdin(word: &str) -> bool {
+pub fn is_stdin(word: &str) -> bool
+    ensures { IsTrue result ↔ (word.now ≡ codes "-") }
+{
     word == "-"
 }
 
@@ -26,33 +41,13 @@ pub fn is_stdin(word: &str) -> bool {
 /// # Errors
 /// What the writer answers where it takes no more.
 pub fn write_usage<W: io::Write>(out: &mut W) -> io::Result<()> {
-    writeln!(out, "usage: ask [FILE]")
+    out.write_all(USAGE.as_bytes())
 }
 
 // Writes how the program is used, what its status says, and where the language is told.
 fn write_help<O: io::Write>(out: &mut O) -> io::Result<()> {
     write_usage(out)?;
-    writeln!(
-        out,
-        "Answers the questions of a file, or of standard input for `-` or no word, each on a line of its own."
-    )?;
-    writeln!(
-        out,
-        "The status is 0 where all was asked, 2 where the text is wrong or can't be read, 1 where an answer can't be written."
-    )?;
-    writeln!(out, "pages:")?;
-    writeln!(
-        out,
-        "  docs/QUESTIONS.md    how questions are written, and how answers are read"
-    )?;
-    writeln!(
-        out,
-        "  docs/DEFINITIONS.md  what it means that two terms are related"
-    )?;
-    writeln!(
-        out,
-        "  docs/PROVED.md       what is proved of answers, and what is not"
-    )?;
+    out.write_all(HELP.as_bytes())?;
     out.flush()
 }
 
