@@ -66,10 +66,19 @@ pub(super) enum Differing {
 static CALLS: [(&str, &[Call]); 10] = [
     ("r06", &[Call::Found(32), Call::Found(33)]),
     ("r32", &[Call::Names]),
-    ("r49", &[Call::Terms(Terms::Rebased), Call::Terms(Terms::Projected)]),
+    (
+        "r49",
+        &[Call::Terms(Terms::Rebased), Call::Terms(Terms::Projected)],
+    ),
     ("r50", &[Call::Terms(Terms::Erased)]),
     ("r51", &[Call::Terms(Terms::Regions)]),
-    ("r52", &[Call::Traits(Differing::Polarity), Call::Traits(Differing::Trait)]),
+    (
+        "r52",
+        &[
+            Call::Traits(Differing::Polarity),
+            Call::Traits(Differing::Trait),
+        ],
+    ),
     ("r61", &[Call::Counts]),
     ("r62", &[Call::Goals]),
     ("r64", &[Call::Deep]),
@@ -90,7 +99,11 @@ impl From<fmt::Error> for RowFault {
 }
 
 // Writes the answers to questions.
-pub(super) fn write_asked<W: Write>(alloc: Global, questions: &str, out: &mut W) -> Result<(), RowFault> {
+pub(super) fn write_asked<W: Write>(
+    alloc: Global,
+    questions: &str,
+    out: &mut W,
+) -> Result<(), RowFault> {
     let answers = asked(alloc, questions)?;
     out.write_str(answers.as_str())?;
     Ok(())

@@ -28,11 +28,7 @@ fn is_variable(term: &Term) -> bool {
 }
 
 // Adds the numbers of a range.
-fn push_range(
-    numbers: &[usize],
-    range: Parts,
-    found: &mut Vec<usize>,
-) -> Result<(), AllocError> {
+fn push_range(numbers: &[usize], range: Parts, found: &mut Vec<usize>) -> Result<(), AllocError> {
     for number in numbers.get(range.first..range.behind).unwrap_or(&[]) {
         found.push(*number)?;
     }

@@ -118,10 +118,7 @@ fn item_text<'a>(program: &Program<'a>, item: &Item<'a>) -> ItemText<'a> {
 }
 
 // The texts of names by their numbers.
-fn name_texts<'a>(
-    alloc: Global,
-    names: &[&'a str],
-) -> Result<NameTexts<'a, SymbolId>, AllocError> {
+fn name_texts<'a>(alloc: Global, names: &[&'a str]) -> Result<NameTexts<'a, SymbolId>, AllocError> {
     let mut texts = HashMap::new(alloc);
     for (number, text) in names.iter().enumerate() {
         let _ = texts.insert(SymbolId(number), *text)?;

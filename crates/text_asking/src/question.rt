@@ -345,9 +345,7 @@ fn ask<I: SizedKeys>(ctx: &mut RefCtxt<I>, terms: &Ready<I>, question: &Question
             let folded = ask_folded(ctx, terms, term, puts)?;
             Ok(Answer::Folded(folded))
         }
-        QuestionKind::Escapes(number) => {
-            whether::<I>(ask_escapes(&ctx.interner, terms, number))
-        }
+        QuestionKind::Escapes(number) => { whether::<I>(ask_escapes(&ctx.interner, terms, number)) }
         QuestionKind::Infers(number) => whether::<I>(ask_infers(&ctx.interner, terms, number)),
         QuestionKind::Rigid(number) => whether::<I>(ask_rigid(&ctx.interner, terms, number)),
         QuestionKind::MayUnify {
