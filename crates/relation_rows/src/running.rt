@@ -182,8 +182,8 @@ fn run_word<O: io::Write, E: io::Write>(
 }
 
 /// Runs one of the rows or all, or prints how the program is used and which rows there are, and answers the status: 2
-/// where the words name no row, 1 where an answer is not the stored one, a row's text is wrong, or a write failed. Where
-/// a row is not known, `err` is told which there are.
+/// where the words name no row, 1 where an answer is not the stored one, a row's text is wrong, or a write failed.
+/// Where a row is not known, `err` is told which there are.
 pub fn run<O: io::Write, E: io::Write>(
     alloc: Global,
     rows: &[Row],

@@ -13,8 +13,8 @@ use Rattle.text_asking.specs.declared.question.Ready.{Ready}
 abbrev pub environment_tree : List Tree → Tree
 environment_tree ts = node environment (list_tree (λ t. t) ts)
 
--- What is made of a range of predicates, if anything is: the environment of their clauses, in order, from an interner to
--- one that has grown.
+-- What is made of a range of predicates, if anything is: the environment of their clauses, in order, from an interner
+-- to one that has grown.
 abbrev pub MakesEnvironment : {C I Key Id Name Span E : Type 0} → (C → Meaning Key Id Name) → C → C →
     Ready I Key Id Name Span → Parts → Result (ParamEnvKey Key) E → Type 0
 MakesEnvironment meaning old new terms p result =

@@ -8,8 +8,8 @@ use Rattle.relation_rows.proofs.calls.relating.write_polarities.Goals as goal
 pub relate-answer-requires : goal.relate-answer-requires
 relate-answer-requires g c = record {
   can = record {
-    lawful = lawful_grows (extends_on c.empty_param_env.ensures.grown c.make_byte_ref.ensures.grown) c.args.ctx.now.inner
-        c.requires;
+    lawful = lawful_grows (extends_on c.empty_param_env.ensures.grown c.make_byte_ref.ensures.grown)
+        c.args.ctx.now.inner c.requires;
     decides = search rules;
     env_known = search rules;
     lhs_known = search rules;
