@@ -12,8 +12,11 @@ use term_enums::hashing::KeyHasher;
 use variable_tables::InferCtxtInner;
 
 /// A part as it is looked for: of which sort it is, and its key.
-#[derive(Clone, Copy, PartialEq, Eq, Hash)]
+#[derive(Clone, Copy, PartialEq, Eq)]
+#[derive_where(Hash; X)]
 pub struct PartKey<X> {
+    // Its key alone is hashed: it tells most parts apart.
+    #[derive_where(skip(Hash))]
     pub sort: u8,
     pub key: X,
 }

@@ -12,7 +12,10 @@ ghost use Rattle.relation_reference.specs.Changes.{IsResolved};
 use crate::context::memory::{PartKey, Resolutions, keep_resolved, recall_resolved};
 use crate::context::shallow::{shallow_resolve, shallow_resolve_const};
 use crate::context::{InferCtxtInner, RefCtxt};
-use relation_terms::terms::parts::{is_same, part, parts_count, the_const, the_ty, with_parts};
+use relation_folds::fold::first_members;
+use relation_terms::terms::parts::{
+    is_same, member, member_count, parts_of, the_const, the_ty, with_parts,
+};
 use relation_terms::terms::{Const, Interner, OutOfMemory, Part, PartOf, Ty};
 use std::collections::HashMap;
 use std::hash::BuildHasherDefault;
@@ -88,18 +91,21 @@ fn resolve_inside<I: Interner>(
     ensures sort { IfOk result (λ t. part_sort t ≡ part_sort term.now) }
     ensures resolves { IfOk result (λ t. IsResolvedPart I.meaning cx.old cx.new inner.now term.now t) }
 {
+    let old = parts_of(&*cx, term);
     let mut parts = Vec::new(cx.alloc());
-    let mut same = true;
-    for i in 0..parts_count(&*cx, term) {
-        let next = part(&*cx, term, i);
+    let mut differs = false;
+    for i in 0..member_count(&*cx, &old) {
+        let next = member(&*cx, &old, i);
         let resolved = resolve_part(cx, inner, &next, memory)?;
-        same &= is_same(&*cx, &resolved, &next);
-        parts.push(resolved)?;
+        if differs {
+            parts.push(resolved)?;
+        } else if !is_same(&*cx, &resolved, &next) {
+            parts = first_members(&*cx, &old, i)?;
+            parts.push(resolved)?;
+            differs = true;
+        }
     }
-    if same {
-        return Ok(*term);
-    }
-    with_parts(cx, term, parts.as_slice())
+    if differs { with_parts(cx, term, parts.as_slice()) } else { Ok(*term) }
 }
 
 impl<I: Interner> RefCtxt<I> {
