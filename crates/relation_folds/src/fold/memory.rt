@@ -10,6 +10,7 @@ ghost use Rattle.relation_folds.specs.Places.{fed_depth};
 
 use crate::fold::TypeFolder;
 use delayed_map::CACHE_CUTOFF;
+use delayed_map::widening::widen_map;
 use relation_terms::terms::{Interner, OutOfMemory, Part, PartOf};
 use std::alloc::Global;
 use std::collections::HashMap;
@@ -153,6 +154,7 @@ pub fn keep<I: Interner, F: TypeFolder<I>>(
     }
     if let Some(place) = place_of(part, depth) {
         memory.made.insert(place, made)?;
+        let _ = widen_map(&mut memory.made);
     }
     Ok(())
 }
