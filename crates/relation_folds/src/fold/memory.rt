@@ -15,6 +15,7 @@ use relation_terms::terms::{Interner, OutOfMemory, Part, PartOf};
 use std::alloc::Global;
 use std::collections::HashMap;
 use std::hash::{BuildHasherDefault, Hash, Hasher};
+use std::mem::replace;
 use term_enums::hashing::KeyHasher;
 
 /// A part at a depth: of which sort it is, its key, and how many binders stand around it.
@@ -56,8 +57,10 @@ impl<X: Hash> Hash for Place<X> {
 pub struct Memory<X: Eq + Hash, D> {
     pub made: HashMap<Place<X>, Part<X, D>, BuildHasherDefault<KeyHasher>>,
     pub let_go: u32,
-    /// Lists that are done with. The next ones stand in their memory.
-    pub spare: Vec<Vec<Part<X, D>>>,
+    /// A list that is done with: the next one stands in its memory.
+    pub spare: Vec<Part<X, D>>,
+    /// More of them, where one was made while others stood.
+    pub others: Vec<Vec<Part<X, D>>>,
 }
 
 /// A part at a depth, where it has a key.
@@ -87,6 +90,7 @@ pub fn nothing<I: Interner>(cx: &I) -> Memory<I::Key, I::Id>
         made: HashMap::with_hasher(cx.alloc(), BuildHasherDefault::new()),
         let_go: 0,
         spare: Vec::new(cx.alloc()),
+        others: Vec::new(cx.alloc()),
     }
 }
 
@@ -98,20 +102,25 @@ pub fn empty_list<X: Copy + Eq + Hash, D: Copy>(
     ensures empty { result.items ≡ [] }
     ensures made { memory.new.made ≡ memory.old.made }
 {
-    match memory.spare.pop() {
-        Some(mut list) => {
-            list.clear();
-            list
+    let mut list = replace(&mut memory.spare, Vec::new(alloc));
+    if list.capacity() == 0 {
+        if let Some(other) = memory.others.pop() {
+            list = other;
         }
-        None => Vec::new(alloc),
     }
+    list.clear();
+    list
 }
 
 /// Keeps the memory of a list that is done with. Where there is no room for that, it is given back.
 pub fn give_back<X: Copy + Eq + Hash, D: Copy>(memory: &mut Memory<X, D>, list: Vec<Part<X, D>>)
     ensures { memory.new.made ≡ memory.old.made }
 {
-    let _ = memory.spare.push(list);
+    if memory.spare.capacity() == 0 {
+        memory.spare = list;
+        return;
+    }
+    let _ = memory.others.push(list);
 }
 
 /// What was made of the part at this depth, if it was met there before.
