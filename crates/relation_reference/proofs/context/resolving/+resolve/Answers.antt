@@ -1,7 +1,7 @@
 use Rattle.std.proofs.Common.{rules, arith, refl, sym, ap, ◌∙◌, ◌≡◌, ◌<◌, ◌≤◌, ◌+◌, ◌*◌}
 use Rattle.std.proofs.Common.{suc, subst, IsTrue, IfSome}
 use Rattle.std.proofs.lemmas.Bool.{false≢true}
-use Rattle.relation_terms.specs.Trees.{known, apply, count, nth, list_tree, IsList}
+use Rattle.relation_terms.specs.Trees.{nil, known, apply, count, nth, list_tree, IsList}
 use Rattle.relation_terms.specs.Parts.{part_tree, parts_tree, parts_of, tree_sort, over, Fit}
 use Rattle.relation_terms.proofs.Stays.{knows_as, extends_on, stays_same}
 use Rattle.relation_terms.specs.Interning.{Sorted}
@@ -35,8 +35,8 @@ pub resolve_inside-member-next-requires : goal.resolve_inside-member-next-requir
 resolve_inside-member-next-requires g t' c =
     let m = g.I.Interner.meaning c.args.cx.now in
     let n = g.I.Interner.meaning c.loop-i.cx in
-    let ps = c.parts_of-old.result in
-    let sure = c.parts_of-old.ensures.sure in
+    let ps = c.args.old.now in
+    let sure = c.requires.parts_known in
     let whole : parts_tree n ps ≡ parts_tree m ps = stays_parts c.loop-i.invariant.grown ps sure in
     let i = c.loop-i.i in
     let counted = c.member_count-i-end.ensures.counts in
@@ -57,14 +57,14 @@ resolve_inside-resolve_part-requires g t' c κs within =
     let inv = c.loop-i.invariant in
     let e : part_tree n p ≡ part_tree m p = stays_part inv.grown p c.requires.term_known in
     let i = c.loop-i.i in
-    let counted = c.member_count-i-end.ensures.counts ∙ ap count c.parts_of-old.ensures.means in
+    let counted = c.member_count-i-end.ensures.counts ∙ ap count c.requires.parts in
     let test = c.loop-i-test.true in
     let below : i < count (parts_of (part_tree m p)) = omega (arith, counted, test) in
     let d = c.decreases in
     let z = c.member-next.result in
     let means = c.member-next.ensures.means
-    ∙ ap (nth i) (stays_parts inv.grown c.parts_of-old.result c.parts_of-old.ensures.sure
-    ∙ c.parts_of-old.ensures.means ∙ ap parts_of (sym e)) in
+    ∙ ap (nth i) (stays_parts inv.grown c.args.old.now c.requires.parts_known
+    ∙ c.requires.parts ∙ ap parts_of (sym e)) in
     let falls : weight (store_of n x) (part_tree n z) < weight st (part_tree m p) =
     part_falls inv.grown x x c.requires.lawful refl (part_tree m p) (part_tree n p) (part_tree n z) i e below means
     (part_tree m p) refl in
@@ -74,7 +74,7 @@ resolve_inside-resolve_part-requires g t' c κs within =
     let sure : IsTrue (known (part_tree n z)) = c.member-next.ensures.sure in
     let is_in : InContext (store_of n x) (part_tree n z) =
     part_in inv.grown x x c.requires.lawful refl (part_tree m p) (part_tree n p) (part_tree n z) i e below means
-    (subst IsList c.parts_of-old.ensures.means c.member_count-i-end.ensures.is_list) c.requires.term_in in
+    (subst IsList c.requires.parts c.member_count-i-end.ensures.is_list) c.requires.term_in in
     search rules
 
 pub resolve_inside-returns-in_err-resolved-clause-grown : goal.resolve_inside-returns-in_err-resolved-clause-grown
@@ -106,8 +106,8 @@ pub resolve_inside-first_members-requires : goal.resolve_inside-first_members-re
 resolve_inside-first_members-requires g t' c =
     let m = g.I.Interner.meaning c.args.cx.now in
     let o = g.I.Interner.meaning c.resolve_part.new.cx in
-    let ps = c.parts_of-old.result in
-    let sure = c.parts_of-old.ensures.sure in
+    let ps = c.args.old.now in
+    let sure = c.requires.parts_known in
     let whole : parts_tree o ps ≡ parts_tree m ps =
     stays_parts (extends_on c.loop-i.invariant.grown c.in_ok-resolved.ensures.grown) ps sure in
     let i = c.loop-i.i in
@@ -129,13 +129,13 @@ resolve_inside-loop-i-preserved g t' c =
     let inv = c.loop-i.invariant in
     let e : part_tree n p ≡ part_tree m p = stays_part inv.grown p c.requires.term_known in
     let i = c.loop-i.i in
-    let counted = c.member_count-i-end.ensures.counts ∙ ap count c.parts_of-old.ensures.means in
+    let counted = c.member_count-i-end.ensures.counts ∙ ap count c.requires.parts in
     let test = c.loop-i-test.true in
     let below : i < count (parts_of (part_tree m p)) = omega (arith, counted, test) in
     let z = c.member-next.result in
     let means = c.member-next.ensures.means
-    ∙ ap (nth i) (stays_parts inv.grown c.parts_of-old.result c.parts_of-old.ensures.sure
-    ∙ c.parts_of-old.ensures.means ∙ ap parts_of (sym e)) in
+    ∙ ap (nth i) (stays_parts inv.grown c.args.old.now c.requires.parts_known
+    ∙ c.requires.parts ∙ ap parts_of (sym e)) in
     let o = g.I.Interner.meaning c.resolve_part.new.cx in
     let r = c.in_ok-resolved.ensures in
     let w = c.in_ok-resolved.resolved in
@@ -146,9 +146,9 @@ resolve_inside-loop-i-preserved g t' c =
     let comes = part_comes inv.grown x x c.requires.lawful refl (part_tree m p) (part_tree n p) (part_tree n z) i e
     below means (part_tree o w) r.resolves in
     let sort = r.sort ∙ sym (sort_known n sorted z c.member-next.ensures.sure) ∙ ap tree_sort was in
-    let ps = c.parts_of-old.result in
+    let ps = c.args.old.now in
     let whole : parts_tree o ps ≡ parts_of (part_tree m p) =
-    stays_parts (extends_on inv.grown r.grown) ps c.parts_of-old.ensures.sure ∙ c.parts_of-old.ensures.means in
+    stays_parts (extends_on inv.grown r.grown) ps c.requires.parts_known ∙ c.requires.parts in
     let stays : part_tree o z ≡ part_tree n z = stays_part r.grown z c.member-next.ensures.sure in
     elim c.if-differs.branch [
       | resolve_inside-then-differs+in_ok-push y ↦
@@ -206,12 +206,12 @@ resolve_inside-with_parts-requires-clause-fits g t' c =
     let inv = c.loop-i.invariant in
     let e : part_tree n p ≡ part_tree m p = stays_part inv.grown p c.requires.term_known in
     let i = c.loop-i.i in
-    let counted = c.member_count-i-end.ensures.counts ∙ ap count c.parts_of-old.ensures.means in
+    let counted = c.member_count-i-end.ensures.counts ∙ ap count c.requires.parts in
     let test = c.loop-i-test.false in
     let end = c.loop-i.auto.i-end in
     let all : i ≡ count (parts_of (part_tree m p)) = omega (arith, counted, test, end) in
     let done = done_all (resolved st) (part_tree n) i (parts_of (part_tree m p)) c.loop-i.parts.items
-    (subst IsList c.parts_of-old.ensures.means c.member_count-i-end.ensures.is_list) all (inv.done c.if-differs-2.true) in
+    (subst IsList c.requires.parts c.member_count-i-end.ensures.is_list) all (inv.done c.if-differs-2.true) in
     subst (λ ys. Fit ys (parts_of (part_tree n p))) (sym c.as_slice.ensures.value)
     (subst (λ z. Fit c.loop-i.parts.items (parts_of z)) (sym e) done.1)
 
@@ -232,12 +232,12 @@ resolve_inside-returns-then-differs-2-clause-resolves g t' c =
     let inv = c.loop-i.invariant in
     let e : part_tree n p ≡ part_tree m p = stays_part inv.grown p c.requires.term_known in
     let i = c.loop-i.i in
-    let counted = c.member_count-i-end.ensures.counts ∙ ap count c.parts_of-old.ensures.means in
+    let counted = c.member_count-i-end.ensures.counts ∙ ap count c.requires.parts in
     let test = c.loop-i-test.false in
     let end = c.loop-i.auto.i-end in
     let all : i ≡ count (parts_of (part_tree m p)) = omega (arith, counted, test, end) in
     let done = done_all (resolved st) (part_tree n) i (parts_of (part_tree m p)) c.loop-i.parts.items
-    (subst IsList c.parts_of-old.ensures.means c.member_count-i-end.ensures.is_list) all (inv.done c.if-differs-2.true) in
+    (subst IsList c.requires.parts c.member_count-i-end.ensures.is_list) all (inv.done c.if-differs-2.true) in
     let whole : over (part_tree n p) (list_tree (part_tree n) c.as_slice.result.now) ≡
     apply (resolved st) (part_tree m c.args.term.now) =
     whole_comes (resolved st) (part_tree m p) (part_tree n p) (list_tree (part_tree n) c.as_slice.result.now)
@@ -255,7 +255,7 @@ resolve_inside-returns-else-differs-2 g t' c =
     let inv = c.loop-i.invariant in
     let e : part_tree n p ≡ part_tree m p = stays_part inv.grown p c.requires.term_known in
     let i = c.loop-i.i in
-    let counted = c.member_count-i-end.ensures.counts ∙ ap count c.parts_of-old.ensures.means in
+    let counted = c.member_count-i-end.ensures.counts ∙ ap count c.requires.parts in
     let test = c.loop-i-test.false in
     let end = c.loop-i.auto.i-end in
     let all : i ≡ count (parts_of (part_tree m p)) = omega (arith, counted, test, end) in
@@ -265,9 +265,25 @@ resolve_inside-returns-else-differs-2 g t' c =
       sure = knows_as (part_tree m p) (part_tree n p) e c.requires.term_known;
       sort = refl;
       resolves = whole_stays (resolved st) (part_tree m p) (part_tree n p) (part_tree m c.args.term.now) e
-          (unchanged_all (resolved st) i (parts_of (part_tree m p)) (subst IsList c.parts_of-old.ensures.means c.member_count-i-end.ensures.is_list) all
+          (unchanged_all (resolved st) i (parts_of (part_tree m p)) (subst IsList c.requires.parts c.member_count-i-end.ensures.is_list) all
           (inv.unchanged c.if-differs-2.false)) c.requires.by_parts
           refl;
+    }
+
+pub resolve_part-returns-in-Empty : goal.resolve_part-returns-in-Empty
+resolve_part-returns-in-Empty g t' c =
+    let m = g.I.Interner.meaning c.args.cx.now in
+    let st = store_of m c.args.inner.now in
+    let t = part_tree m c.shallow_part-shallow.result in
+    let s = c.shallow_part-shallow.ensures in
+    let none : nil ≡ parts_of t = sym (ap (parts_tree m) c.in-Empty.is) ∙ c.parts_of-parts.ensures.means in
+    record {
+      grown = stays_same m;
+      remembers = c.requires.remembers;
+      sure = s.sure;
+      sort = s.sort;
+      resolves = whole_stays (resolved st) t t (part_tree m c.args.term.now) refl
+          (subst (λ z. apply (resolved st) z ≡ z) none refl) s.by_parts s.resolves;
     }
 
 pub resolve_part-returns-in-Some : goal.resolve_part-returns-in-Some
@@ -298,6 +314,8 @@ resolve_part-resolve_inside-requires g t' c κs within =
     let sure = r.sure in
     let is_in = r.is_in in
     let by_parts = r.by_parts in
+    let parts_sure = c.parts_of-parts.ensures.sure in
+    let parts = c.parts_of-parts.ensures.means in
     search rules
 
 pub resolve_part-keep_resolved-requires : goal.resolve_part-keep_resolved-requires
