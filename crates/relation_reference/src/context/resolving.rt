@@ -74,18 +74,18 @@ pub(crate) fn resolve_part<I: Interner>(
     Ok(resolved)
 }
 
-// The same of a term that comes to the form over what its parts come to. Where they come to what they are,
+// The same of a term that comes to the form over what its parts, `own`, come to. Where they come to what they are,
 // nothing is made.
 #[cycle(resolve)]
 fn resolve_inside<I: Interner>(
     cx: &mut I,
     inner: &InferCtxtInner<I::Key>,
     term: &PartOf<I>,
-    old: &PartsOf<I>,
+    own: &PartsOf<I>,
     memory: &mut Resolutions<I::Key, I::Id>,
 ) -> Result<PartOf<I>, OutOfMemory>
-    requires parts_known { IsTrue (known (parts_tree (I.meaning cx.old) old.now)) }
-    requires parts { let m = I.meaning cx.old in parts_tree m old.now ≡ parts_of (part_tree m term.now) }
+    requires parts_known { IsTrue (known (parts_tree (I.meaning cx.old) own.now)) }
+    requires parts { let m = I.meaning cx.old in parts_tree m own.now ≡ parts_of (part_tree m term.now) }
     requires lawful { IsLawful (I.meaning cx.old) inner.now }
     requires remembers { Caches I.meaning cx.old inner.now ⟦<PartKey<I::Key> as PartialEq>⟧.eq memory.old }
     requires term_known { IsTrue (known (part_tree (I.meaning cx.old) term.now)) }
@@ -100,13 +100,13 @@ fn resolve_inside<I: Interner>(
 {
     let mut parts = Vec::new(cx.alloc());
     let mut differs = false;
-    for i in 0..member_count(&*cx, old) {
-        let next = member(&*cx, old, i);
+    for i in 0..member_count(&*cx, own) {
+        let next = member(&*cx, own, i);
         let resolved = resolve_part(cx, inner, &next, memory)?;
         if differs {
             parts.push(resolved)?;
         } else if !is_same(&*cx, &resolved, &next) {
-            parts = first_members(&*cx, old, i)?;
+            parts = first_members(&*cx, own, i)?;
             parts.push(resolved)?;
             differs = true;
         }

@@ -35,7 +35,7 @@ pub resolve_inside-member-next-requires : goal.resolve_inside-member-next-requir
 resolve_inside-member-next-requires g t' c =
     let m = g.I.Interner.meaning c.args.cx.now in
     let n = g.I.Interner.meaning c.loop-i.cx in
-    let ps = c.args.old.now in
+    let ps = c.args.own.now in
     let sure = c.requires.parts_known in
     let whole : parts_tree n ps ≡ parts_tree m ps = stays_parts c.loop-i.invariant.grown ps sure in
     let i = c.loop-i.i in
@@ -63,7 +63,7 @@ resolve_inside-resolve_part-requires g t' c κs within =
     let d = c.decreases in
     let z = c.member-next.result in
     let means = c.member-next.ensures.means
-    ∙ ap (nth i) (stays_parts inv.grown c.args.old.now c.requires.parts_known
+    ∙ ap (nth i) (stays_parts inv.grown c.args.own.now c.requires.parts_known
     ∙ c.requires.parts ∙ ap parts_of (sym e)) in
     let falls : weight (store_of n x) (part_tree n z) < weight st (part_tree m p) =
     part_falls inv.grown x x c.requires.lawful refl (part_tree m p) (part_tree n p) (part_tree n z) i e below means
@@ -106,7 +106,7 @@ pub resolve_inside-first_members-requires : goal.resolve_inside-first_members-re
 resolve_inside-first_members-requires g t' c =
     let m = g.I.Interner.meaning c.args.cx.now in
     let o = g.I.Interner.meaning c.resolve_part.new.cx in
-    let ps = c.args.old.now in
+    let ps = c.args.own.now in
     let sure = c.requires.parts_known in
     let whole : parts_tree o ps ≡ parts_tree m ps =
     stays_parts (extends_on c.loop-i.invariant.grown c.in_ok-resolved.ensures.grown) ps sure in
@@ -134,7 +134,7 @@ resolve_inside-loop-i-preserved g t' c =
     let below : i < count (parts_of (part_tree m p)) = omega (arith, counted, test) in
     let z = c.member-next.result in
     let means = c.member-next.ensures.means
-    ∙ ap (nth i) (stays_parts inv.grown c.args.old.now c.requires.parts_known
+    ∙ ap (nth i) (stays_parts inv.grown c.args.own.now c.requires.parts_known
     ∙ c.requires.parts ∙ ap parts_of (sym e)) in
     let o = g.I.Interner.meaning c.resolve_part.new.cx in
     let r = c.in_ok-resolved.ensures in
@@ -146,7 +146,7 @@ resolve_inside-loop-i-preserved g t' c =
     let comes = part_comes inv.grown x x c.requires.lawful refl (part_tree m p) (part_tree n p) (part_tree n z) i e
     below means (part_tree o w) r.resolves in
     let sort = r.sort ∙ sym (sort_known n sorted z c.member-next.ensures.sure) ∙ ap tree_sort was in
-    let ps = c.args.old.now in
+    let ps = c.args.own.now in
     let whole : parts_tree o ps ≡ parts_of (part_tree m p) =
     stays_parts (extends_on inv.grown r.grown) ps c.requires.parts_known ∙ c.requires.parts in
     let stays : part_tree o z ≡ part_tree n z = stays_part r.grown z c.member-next.ensures.sure in
