@@ -22,6 +22,7 @@ ghost use Rattle.occurs_check.specs.declared.fates.Fate.TheVariants.{ByParts};
 use crate::context::RefCtxt;
 use crate::context::clearing::{ClearTypes, parts_inside};
 use crate::context::varying::variance_of;
+use delayed_map::widening::widen_map;
 use occurs_check::fates::{Fate, TargetOf, fate_of};
 use occurs_check::term_vid::{TermVid, variable_of};
 use relation_folds::error::{RelateFault, RelateFaultOf, TypeError};
@@ -103,6 +104,7 @@ fn keep_type<I: Interner>(
         ty: *ty,
     };
     met.insert(key, became)?;
+    let _ = widen_map(met);
     Ok(())
 }
 

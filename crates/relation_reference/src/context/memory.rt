@@ -5,6 +5,7 @@ ghost use Rattle.relation_terms.specs.Parts.{part_tree};
 ghost use Rattle.variable_tables.specs.Tables.{store_of};
 ghost use Rattle.relation_reference.specs.Remembering.{ResolvesTo, key_of as the_key, Caches};
 
+use delayed_map::widening::widen_map;
 use relation_terms::terms::{Interner, OutOfMemory, Part, PartOf};
 use std::collections::HashMap;
 use std::hash::BuildHasherDefault;
@@ -72,6 +73,7 @@ pub(crate) fn keep_resolved<I: Interner>(
 {
     if let Some(key) = key_of(part) {
         memory.insert(key, resolved)?;
+        let _ = widen_map(memory);
     }
     Ok(())
 }
