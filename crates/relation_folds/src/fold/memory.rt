@@ -94,6 +94,19 @@ pub fn nothing<I: Interner>(cx: &I) -> Memory<I::Key, I::Id>
     }
 }
 
+// A list that is done with, or, where there is none, one that takes no memory.
+fn old_list<X: Copy + Eq + Hash, D: Copy>(memory: &mut Memory<X, D>, alloc: Global) -> Vec<Part<X, D>>
+    ensures { memory.new.made ≡ memory.old.made }
+{
+    if memory.spare.capacity() > 0 {
+        return replace(&mut memory.spare, Vec::new(alloc));
+    }
+    match memory.others.pop() {
+        Some(list) => list,
+        None => Vec::new(alloc),
+    }
+}
+
 /// An empty list, in the memory of one that is done with where there is one.
 pub fn empty_list<X: Copy + Eq + Hash, D: Copy>(
     memory: &mut Memory<X, D>,
@@ -102,12 +115,7 @@ pub fn empty_list<X: Copy + Eq + Hash, D: Copy>(
     ensures empty { result.items ≡ [] }
     ensures made { memory.new.made ≡ memory.old.made }
 {
-    let mut list = replace(&mut memory.spare, Vec::new(alloc));
-    if list.capacity() == 0 {
-        if let Some(other) = memory.others.pop() {
-            list = other;
-        }
-    }
+    let mut list = old_list(memory, alloc);
     list.clear();
     list
 }
