@@ -16,7 +16,6 @@ const LEAST: usize = 63;
 ///
 /// # Errors
 /// `OutOfMemory` where that is refused: the set keeps what it did, and asks for less when the next element comes.
-#[inline(always)]
 pub fn widen<T: Eq + Hash, S: BuildHasher, A: Allocator + Clone>(
     set: &mut HashSet<T, S, A>,
 ) -> Result<(), OutOfMemory>
