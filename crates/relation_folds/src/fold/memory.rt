@@ -95,7 +95,10 @@ pub fn nothing<I: Interner>(cx: &I) -> Memory<I::Key, I::Id>
 }
 
 // A list that is done with, or, where there is none, one that takes no memory.
-fn old_list<X: Copy + Eq + Hash, D: Copy>(memory: &mut Memory<X, D>, alloc: Global) -> Vec<Part<X, D>>
+fn old_list<X: Copy + Eq + Hash, D: Copy>(
+    memory: &mut Memory<X, D>,
+    alloc: Global,
+) -> Vec<Part<X, D>>
     ensures { memory.new.made ≡ memory.old.made }
 {
     if memory.spare.capacity() > 0 {

@@ -27,9 +27,7 @@ use occurs_check::fates::{Fate, TargetOf, fate_of};
 use occurs_check::term_vid::{TermVid, variable_of};
 use relation_folds::error::{RelateFault, RelateFaultOf, TypeError};
 use relation_folds::fold::first_members;
-use relation_terms::terms::parts::{
-    is_same, member, member_count, parts_of, the_ty, with_parts,
-};
+use relation_terms::terms::parts::{is_same, member, member_count, parts_of, the_ty, with_parts};
 use relation_terms::terms::{
     Interner, OutOfMemory, Part, PartOf, Ty, TyKey, TyVid, UniverseIndex, Variance,
 };

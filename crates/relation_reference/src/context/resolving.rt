@@ -111,7 +111,11 @@ fn resolve_inside<I: Interner>(
             differs = true;
         }
     }
-    if differs { with_parts(cx, term, parts.as_slice()) } else { Ok(*term) }
+    if differs {
+        with_parts(cx, term, parts.as_slice())
+    } else {
+        Ok(*term)
+    }
 }
 
 impl<I: Interner> RefCtxt<I> {

@@ -11,7 +11,7 @@ pub loop-i-init : goal.loop-i-init
 loop-i-init g c =
     let m = g.I.Interner.meaning c.args.cx.now in
     let ts = parts_tree m c.args.parts.now in
-    record { firsts = firsts_none (part_tree m) ts c.args.empty.items c.requires.empty; }
+    record { firsts = firsts_none (part_tree m) ts c.args.empty.items c.requires.empty }
 
 pub loop-i-preserved : goal.loop-i-preserved
 loop-i-preserved g c =
