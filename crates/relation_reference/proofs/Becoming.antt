@@ -24,7 +24,7 @@ module _ {Key Id : Type 0} (f : Part Key Id → Tree) (y : Part Key Id) where
       ap (λ b. cond b (list_tree f ys) fs) d ∙ ap (list_tree f) r ∙ list_push f xs y ∙ ap (λ z. snoc z (f y)) e
 
 -- One more that is as it was, where none is made.
-pub same_tree : {made : Bool} {list : Tree} (i j : ℕ) (ts us u : Tree) → i < count ts → j ≡ suc i → us ≡ firsts i ts →
+pub same_tree : {made : Bool} (list : Tree) (i j : ℕ) (ts us u : Tree) → i < count ts → j ≡ suc i → us ≡ firsts i ts →
     u ≡ nth i ts → made ≡ false → cond made list (firsts j ts) ≡ snoc us u
-same_tree {list = list} i j ts us u h e p q d =
+same_tree list i j ts us u h e p q d =
     ap (λ b. cond b list (firsts j ts)) d ∙ ap (λ n. firsts n ts) e ∙ firsts_more i ts h ∙ ap₂ snoc (sym p) (sym q)

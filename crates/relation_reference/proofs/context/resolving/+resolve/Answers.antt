@@ -245,8 +245,8 @@ resolve_inside-returns-then-differs-2-clause-resolves g t' c =
     c.requires.by_parts refl in
     if_ok c.with_parts.result (λ y q. q ∙ whole) c.with_parts.ensures.made
 
-pub resolve_inside-returns-else-differs-2 : goal.resolve_inside-returns-else-differs-2
-resolve_inside-returns-else-differs-2 g t' c =
+pub resolve_inside-returns : goal.resolve_inside-returns
+resolve_inside-returns g t' c =
     let x = c.args.inner.now in
     let m = g.I.Interner.meaning c.args.cx.now in
     let st = store_of m x in

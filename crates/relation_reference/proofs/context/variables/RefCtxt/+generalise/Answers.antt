@@ -1014,13 +1014,13 @@ generalise_parts-loop-i-preserved g t' c =
                 c.requires.goes listed j below us inv.went inv.grown (part_tree n z) at
                 (side_of c.parts_inside-within.result) c.parts_inside-within.ensures c.variance_of-at.result
                 (c.variance_of-at.ensures ∙ ap (λ y. variance_of_part (items_of n) y j v) e) (part_tree o w) a.3 (j + 1)
-                _ next (same_tree j (j + 1) (parts_of t) us (part_tree o w) below next us_is
+                _ next (same_tree _ j (j + 1) (parts_of t) us (part_tree o w) below next us_is
                 (x.is_same.ensures.one x.if-not-is_same.false ∙ stays ∙ at) (x.differs-is ∙ x.if-differs.false));
           }
     ]
 
-pub generalise_parts-returns-else-differs-2 : goal.generalise_parts-returns-else-differs-2
-generalise_parts-returns-else-differs-2 g t' c =
+pub generalise_parts-returns : goal.generalise_parts-returns
+generalise_parts-returns g t' c =
     let meaning = g.I.Interner.meaning in
     let m = meaning c.args.self.now.interner in
     let eq = met_eq g.I.Key.PartialEq.eq in
