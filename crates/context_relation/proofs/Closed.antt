@@ -62,7 +62,7 @@ module _ {S Key Id Name A : Type 0} (state : S → Context Key Id Name) (old new
     never_spent p q result needs,
   )
 
-none_keyed : {Key Id Name : Type 0} (m : Meaning Key Id Name) (gs : List (KeyedGoal Key (PredicateKey Key))) →
+pub none_keyed : {Key Id Name : Type 0} (m : Meaning Key Id Name) (gs : List (KeyedGoal Key (PredicateKey Key))) →
     goals_of m gs ≡ [] → gs ≡ []
 none_keyed m [] q = refl
 none_keyed m (g ∷ gs) q = absurd cc

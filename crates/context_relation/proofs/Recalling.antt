@@ -128,20 +128,6 @@ module _ {Key Id Name : Type 0} (r q : State Key Id Name) (a b : TyKey Key) wher
       res ≡ Err f → RemembersAnswered r q a b res
   not_answered res f is = subst (RemembersAnswered r q a b) (sym is) tt
 
-  -- What comes of two types of which none is a variable.
-  pub unless_variables : IsNoTyVar ((r.meaning).ty a) → IsNoTyVar ((r.meaning).ty b) →
-      (res : Result (Step (TyKey Key)) (RelateFault Key Id Name)) → CombinesShallowTys r q a b res → TysCombine r q a b res
-  unless_variables n m res (two_variables i j f g h) = absurd (n i f)
-  unless_variables n m res (left_bound i x f g h o is) = absurd (n i f)
-  unless_variables n m res (left_asked i x p f g d h is) = absurd (n i f)
-  unless_variables n m res (left_unasked i x f g h is) = absurd (n i f)
-  unless_variables n m res (left_refused i x f g h is) = absurd (n i f)
-  unless_variables n m res (right_bound i x f g h o is) = absurd (m i f)
-  unless_variables n m res (right_asked i x p f g d h is) = absurd (m i f)
-  unless_variables n m res (right_unasked i x f g h is) = absurd (m i f)
-  unless_variables n m res (right_refused i x f g h is) = absurd (m i f)
-  unless_variables n m res (no_ty_variables f g h) = h
-
   pub read_told : (C D : Result (Step (TyKey Key)) (RelateFault Key Id Name) → Type 0) →
       ((res : Result (Step (TyKey Key)) (RelateFault Key Id Name)) → C res → D res) →
       (res : Result (Step (TyKey Key)) (RelateFault Key Id Name)) → StepsRead r q a b C res → StepsRead r q a b D res

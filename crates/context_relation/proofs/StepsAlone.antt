@@ -1,5 +1,6 @@
--- What a step of the relation of a context registers alone, of two types that are left to one goal.
-use Rattle.std.proofs.Common.{◌≡◌, ◌≢◌, ◌⊎◌, inl, inr, ⊎_elim, arith, refl, sym, ap, ◌∙◌, subst, subst₂, [], ◌∷◌, Contains, Some, None}
+-- What a step of the relation of a context does at once: of two types that are left to one goal it registers that alone, of
+-- an error with another type it records that one was met, and two over one item it leaves to their parts.
+use Rattle.std.proofs.Common.{◌≡◌, ◌≢◌, ◌⊎◌, ◌<◌, ℕ, inl, inr, ⊎_elim, arith, refl, sym, ap, ◌∙◌, subst, subst₂, [], ◌∷◌, Contains, Some, None}
 use Rattle.std.proofs.Common.{Result, Ok, Err, IsTrue, false}
 use Rattle.std.proofs.lemmas.Bool.{false≢true}
 use Rattle.std.proofs.lemmas.List.Elements.{Contains-append_right}
@@ -12,16 +13,24 @@ use Rattle.relation_semantics.specs.declared.relate.Step.{Step}
 use Rattle.relation_semantics.specs.declared.relate.Step.TheVariants.{Done}
 use Rattle.relation_semantics.specs.AliasGoals.{alias_at}
 use Rattle.relation_semantics.specs.Errors.{itself, HaveNoError}
-use Rattle.relation_semantics.specs.Goals.{Goal, goal_of}
-use Rattle.relation_semantics.specs.Lawful.{State, Manners, RemembersRelated}
+use Rattle.relation_semantics.specs.Goals.{Goal, goal_of, well_formed_predicate}
+use Rattle.relation_semantics.specs.Lawful.{State, Manners, RemembersRelated, items_in}
 use Rattle.relation_semantics.specs.Parts.{IsFormed}
-use Rattle.relation_semantics.specs.Relation.{IsAlias}
+use Rattle.relation_semantics.specs.Relation.{IsAlias, IsError}
 use Rattle.relation_semantics.specs.Resolving.{formed}
 use Rattle.relation_semantics.specs.Settings.{DefersAliases}
 use Rattle.relation_semantics.proofs.AliasSteps.{reads_once}
-use Rattle.relation_semantics.specs.AskedAlone.{AsksAlone, of_variables, of_alias, subtype_at}
-use Rattle.relation_steps.specs.Alone.{StepRegistersAlone, StepsAlone}
-use Rattle.relation_combining.specs.Combining.{RegistersOne, RegistersNone, TysCombine}
+use Rattle.relation_semantics.specs.AskedAlone.{AsksAlone, of_variables, of_alias, subtype_at, IsNoTyVar}
+use Rattle.relation_steps.specs.Alone.{StepRegistersAlone, StepsAlone, StepsError, StepsOpen, StepsAtOnce, RecordsError}
+use Rattle.relation_steps.specs.Alone.{LeavesNoPair, LeavesParts}
+use Rattle.relation_steps.specs.Arguments.{AreOverItem}
+use Rattle.relation_steps.specs.Bivariance.{HasOpenArgument, AsksOfOver}
+use Rattle.relation_steps.specs.Keyed.{NotedTys, TysAskOpen}
+use Rattle.relation_combining.specs.Solving.{solver_manner}
+use Rattle.relation_recursion.proofs.OverItems.{error_not_over, alias_not_over, opaque_not_over, left_no_leaf, right_no_leaf}
+use Rattle.relation_combining.specs.Combining.{RegistersOne, RegistersNone, TysCombine, MeetsTys, equated, left_unlike}
+use Rattle.relation_combining.specs.Combining.{left_bound as number_on_left, right_bound as number_on_right, right_unlike}
+use Rattle.relation_combining.specs.Combining.{ty_variable, by_parts}
 use Rattle.relation_combining.specs.Combining.{left_error, right_error, is_deferred, left_open, not_registered, not_left}
 use Rattle.context_relation.specs.Stepping.{CombinesTyVars, made_one, left_subtype, right_subtype, goal_refused}
 use Rattle.context_relation.specs.Stepping.{CombinesShallowTys, two_variables, left_bound, left_asked, left_unasked, left_refused}
@@ -141,8 +150,118 @@ module _ {Key Id Name : Type 0} (r q : State Key Id Name) where
     read_alone res (not_remembered t h is) = subst (StepRegistersAlone r q (q.meaning).ty ((r.meaning).ty x) p) (sym is)
         (alone (Ok (Done t)) h).1.0
 
+  -- Of an error with another type that is recorded, and nothing else.
+  errors_combine : (a b : TyKey Key) (res : Result (Step (TyKey Key)) (RelateFault Key Id Name)) →
+      IsError ((r.meaning).ty a) ⊎ IsError ((r.meaning).ty b) → TysCombine r q a b res → RecordsError r q × LeavesNoPair res
+  errors_combine a b res o (left_error h t is) = ((t.taints, t.goals), subst LeavesNoPair (sym is) tt)
+  errors_combine a b res o (right_error n h t is) = ((t.taints, t.goals), subst LeavesNoPair (sym is) tt)
+  errors_combine a b res (inl e) (is_deferred z c k i d h is) = absurd (c.0 e)
+  errors_combine a b res (inr e) (is_deferred z c k i d h is) = absurd (c.1 e)
+  errors_combine a b res (inl e) (left_open c k i h is) = absurd (c.0 e)
+  errors_combine a b res (inr e) (left_open c k i h is) = absurd (c.1 e)
+  errors_combine a b res (inl e) (not_registered c k h is) = absurd (c.0 e)
+  errors_combine a b res (inr e) (not_registered c k h is) = absurd (c.1 e)
+  errors_combine a b res (inl e) (not_left c n g h) = absurd (c.0 e)
+  errors_combine a b res (inr e) (not_left c n g h) = absurd (c.1 e)
+
+  -- What comes of two types of which none is a variable.
+  pub unless_variables : (a b : TyKey Key) → IsNoTyVar ((r.meaning).ty a) → IsNoTyVar ((r.meaning).ty b) →
+      (res : Result (Step (TyKey Key)) (RelateFault Key Id Name)) → CombinesShallowTys r q a b res → TysCombine r q a b res
+  unless_variables a b n m res (two_variables i j f g h) = absurd (n i f)
+  unless_variables a b n m res (left_bound i x f g h o is) = absurd (n i f)
+  unless_variables a b n m res (left_asked i x p f g d h is) = absurd (n i f)
+  unless_variables a b n m res (left_unasked i x f g h is) = absurd (n i f)
+  unless_variables a b n m res (left_refused i x f g h is) = absurd (n i f)
+  unless_variables a b n m res (right_bound i x f g h o is) = absurd (m i f)
+  unless_variables a b n m res (right_asked i x p f g d h is) = absurd (m i f)
+  unless_variables a b n m res (right_unasked i x f g h is) = absurd (m i f)
+  unless_variables a b n m res (right_refused i x f g h is) = absurd (m i f)
+  unless_variables a b n m res (no_ty_variables f g h) = h
+
+  -- What is said of a step is said of one of a pair as it is read, if it is said of a refused growth: nothing is
+  -- remembered, so the pair is not met again.
+  read_anew : (x y : TyKey Key) → r.remembered ≡ [] →
+      (Combines Says : Result (Step (TyKey Key)) (RelateFault Key Id Name) → Type 0) →
+      ((res : Result (Step (TyKey Key)) (RelateFault Key Id Name)) → Combines res → Says res) →
+      ((t : TyKey Key) → Says (Ok (Done t)) → Says (Err Memory)) →
+      (res : Result (Step (TyKey Key)) (RelateFault Key Id Name)) → StepsRead r q x y Combines res → Says res
+  read_anew x y none Combines Says f refused res (met_again z l is) =
+      let is_in = subst (λ ps. Contains ps z.pair) none z.is_in in
+      let c : is_in.0 < 0 = is_in.1 in absurd (omega (arith, c))
+  read_anew x y none Combines Says f refused res (combined h) = f res h
+  read_anew x y none Combines Says f refused res (not_remembered t h is) =
+      subst Says (sym is) (refused t (f (Ok (Done t)) h))
+
+  steps_error : (M : Manners) (a b : TyKey Key) (res : Result (Step (TyKey Key)) (RelateFault Key Id Name)) →
+      (one_has_variable r.meaning a b ≡ false → IsFormed ((r.meaning).ty a) × IsFormed ((r.meaning).ty b)) →
+      StepsTys r q a b res → StepsError M r q ((r.meaning).ty a) ((r.meaning).ty b) res
+  steps_error M a b res forms (one_type e l is) promised none differ s t x y f g n m o = absurd (differ e)
+  steps_error M a b res forms (without_variables u e h) promised none differ s t x y f g n m o =
+      let z = forms e in
+      let left = reads_once r.store ((r.meaning).ty a) x ((r.meaning).ty a) f.reads (itself refl) f.shallow (formed z.0) in
+      let right = reads_once r.store ((r.meaning).ty b) y ((r.meaning).ty b) g.reads (itself refl) g.shallow (formed z.1) in
+      read_anew a b none (TysCombine r q a b) (λ p. RecordsError r q × LeavesNoPair p)
+      (λ p. errors_combine a b p (subst₂ (λ u w. IsError u ⊎ IsError w) left right o)) (λ z k. (k.0, tt)) res h
+  steps_error M a b res forms (resolved_first k l u e f' g' h) promised none differ s t x y f g n m o =
+      let left = reads_once r.store ((r.meaning).ty a) x ((r.meaning).ty k) f.reads (f'.reads).reads f.shallow f'.shallow in
+      let right = reads_once r.store ((r.meaning).ty b) y ((r.meaning).ty l) g.reads (g'.reads).reads g.shallow g'.shallow in
+      read_anew k l none (CombinesShallowTys r q k l) (λ p. RecordsError r q × LeavesNoPair p)
+      (λ p c. errors_combine k l p (subst₂ (λ u w. IsError u ⊎ IsError w) left right o)
+      (unless_variables k l (subst IsNoTyVar left n) (subst IsNoTyVar right m) p c)) (λ z k. (k.0, tt)) res h
+
+  -- Two over one item are left to be related by their parts.
+  items_combine : (a b : TyKey Key) (d : ℕ) (ts us : Tree) → AreOverItem d ((r.meaning).ty a) ((r.meaning).ty b) ts us →
+      Extends r.meaning q.meaning → IsTrue (known ((r.meaning).ty a)) → IsTrue (known ((r.meaning).ty b)) →
+      (res : Result (Step (TyKey Key)) (RelateFault Key Id Name)) → TysCombine r q a b res →
+      LeavesParts (q.meaning).ty ((r.meaning).ty a) ((r.meaning).ty b) res
+  items_combine a b d ts us over e ka kb res (left_error h t is) = absurd (error_not_over over (inl h))
+  items_combine a b d ts us over e ka kb res (right_error n h t is) = absurd (error_not_over over (inr h))
+  items_combine a b d ts us over e ka kb res (is_deferred z c k i p h is) = absurd (alias_not_over over i)
+  items_combine a b d ts us over e ka kb res (left_open c k i h is) = absurd (opaque_not_over over i)
+  items_combine a b d ts us over e ka kb res (not_registered c k h is) =
+      subst (LeavesParts (q.meaning).ty ((r.meaning).ty a) ((r.meaning).ty b)) (sym is) tt
+  items_combine a b d ts us over e ka kb res (not_left c n g h) = meets h
+    where
+      leaves : (x : Result (Step (TyKey Key)) (RelateFault Key Id Name)) → res ≡ x →
+          LeavesParts (q.meaning).ty ((r.meaning).ty a) ((r.meaning).ty b) x →
+          LeavesParts (q.meaning).ty ((r.meaning).ty a) ((r.meaning).ty b) res
+      leaves x is h = subst (LeavesParts (q.meaning).ty ((r.meaning).ty a) ((r.meaning).ty b)) (sym is) h
+
+      meets : MeetsTys r.meaning r.store q.store a b res →
+          LeavesParts (q.meaning).ty ((r.meaning).ty a) ((r.meaning).ty b) res
+      meets (equated k i j n f g o is) = absurd (left_no_leaf _ over f)
+      meets (number_on_left k i f o is) = absurd (left_no_leaf _ over f)
+      meets (number_on_right k i f o is) = absurd (right_no_leaf _ over f)
+      meets (left_unlike o s is) = leaves _ is tt
+      meets (right_unlike o s is) = leaves _ is tt
+      meets (ty_variable o s is) = leaves _ is tt
+      meets (by_parts n o s is) = leaves _ is (e.ty a ka, e.ty b kb)
+
+  steps_open : (M : Manners) (a b : TyKey Key) (res : Result (Step (TyKey Key)) (RelateFault Key Id Name)) →
+      Extends r.meaning q.meaning → IsTrue (known ((r.meaning).ty a)) → IsTrue (known ((r.meaning).ty b)) →
+      (one_has_variable r.meaning a b ≡ false → IsFormed ((r.meaning).ty a) × IsFormed ((r.meaning).ty b)) →
+      StepsTys r q a b res → StepsOpen M r q (q.meaning).ty ((r.meaning).ty a) ((r.meaning).ty b) res
+  steps_open M a b res extends ka kb forms (one_type e l is) promised none differ s t x y f g d ts us over =
+      absurd (differ e)
+  steps_open M a b res extends ka kb forms (without_variables u e h) promised none differ s t x y f g d ts us over =
+      let z = forms e in
+      let left = reads_once r.store ((r.meaning).ty a) x ((r.meaning).ty a) f.reads (itself refl) f.shallow (formed z.0) in
+      let right = reads_once r.store ((r.meaning).ty b) y ((r.meaning).ty b) g.reads (itself refl) g.shallow (formed z.1) in
+      let o = subst₂ (λ u w. AreOverItem d u w ts us) left right over in
+      subst₂ (λ u w. LeavesParts (q.meaning).ty u w res) (sym left) (sym right)
+      (read_anew a b none (TysCombine r q a b) (LeavesParts (q.meaning).ty ((r.meaning).ty a) ((r.meaning).ty b))
+      (items_combine a b d ts us o extends ka kb) (λ z k. tt) res h)
+  steps_open M a b res extends ka kb forms (resolved_first k l u e f' g' h) promised none differ s t x y f g d ts us over =
+      let left = reads_once r.store ((r.meaning).ty a) x ((r.meaning).ty k) f.reads (f'.reads).reads f.shallow f'.shallow in
+      let right = reads_once r.store ((r.meaning).ty b) y ((r.meaning).ty l) g.reads (g'.reads).reads g.shallow g'.shallow in
+      let o = subst₂ (λ u w. AreOverItem d u w ts us) left right over in
+      subst₂ (λ u w. LeavesParts (q.meaning).ty u w res) (sym left) (sym right)
+      (read_anew k l none (CombinesShallowTys r q k l) (LeavesParts (q.meaning).ty ((r.meaning).ty k) ((r.meaning).ty l))
+      (λ p c. items_combine k l d ts us o extends (f'.reads).sure (g'.reads).sure p
+      (unless_variables k l (λ i e. left_no_leaf _ o e) (λ i e. right_no_leaf _ o e) p c)) (λ z k. tt) res h)
+
   -- A step of two types registers alone what is asked of them.
-  pub steps_alone : (M : Manners) (a b : TyKey Key) (res : Result (Step (TyKey Key)) (RelateFault Key Id Name)) →
+  steps_alone : (M : Manners) (a b : TyKey Key) (res : Result (Step (TyKey Key)) (RelateFault Key Id Name)) →
       RemembersRelated M r → Extends r.meaning q.meaning → IsTrue (known ((r.meaning).ty a)) →
       (one_has_variable r.meaning a b ≡ false → IsFormed ((r.meaning).ty a) × IsFormed ((r.meaning).ty b)) →
       StepsTys r q a b res → StepsAlone M r q (q.meaning).ty ((r.meaning).ty a) ((r.meaning).ty b) res
@@ -167,3 +286,30 @@ module _ {Key Id Name : Type 0} (r q : State Key Id Name) where
       subst (λ w. StepRegistersAlone r q (q.meaning).ty w p res) (sym left)
       (read_alone M promised related l t' p asked (CombinesShallowTys r q l t')
       (λ r o. shallow_alone l t' r extends (f'.reads).sure p asked o) res h)
+
+  -- What a step of two types does at once.
+  pub steps_at_once : (M : Manners) (a b : TyKey Key) (res : Result (Step (TyKey Key)) (RelateFault Key Id Name)) →
+      RemembersRelated M r → Extends r.meaning q.meaning → IsTrue (known ((r.meaning).ty a)) →
+      IsTrue (known ((r.meaning).ty b)) →
+      (one_has_variable r.meaning a b ≡ false → IsFormed ((r.meaning).ty a) × IsFormed ((r.meaning).ty b)) →
+      StepsTys r q a b res → StepsAtOnce M r q (q.meaning).ty ((r.meaning).ty a) ((r.meaning).ty b) res
+  steps_at_once M a b res related extends ka kb forms h = (
+    steps_alone M a b res related extends ka forms h,
+    steps_error M a b res forms h,
+    steps_open M a b res extends ka kb forms h,
+  )
+
+-- What is registered of open arguments is asked.
+pub asks_open : {Key Id Name X : Type 0} (r q : State Key Id Name) (a b : TyKey Key)
+    (res : Result X (RelateFault Key Id Name)) → NotedTys r q a b res → AsksOfOver r q a b res →
+    TysAskOpen solver_manner r q a b res
+asks_open r q a b (Err f) noted registers = λ promised. tt
+asks_open r q a b (Ok x) noted registers = λ promised directed d ts us over opens.
+    let o = subst (λ st. HasOpenArgument (items_in r) st d ts ⊎ HasOpenArgument (items_in r) st d us) noted.store opens in
+    let is = (registers d ts us over).both o in
+    let one = goal_of r.kept.environment (well_formed_predicate ((r.meaning).ty a)) in
+    let other = goal_of r.kept.environment (well_formed_predicate ((r.meaning).ty b)) in
+    let both = one ∷ other ∷ [] in (
+      subst (λ gs. Contains gs one) (sym is) (Contains-append_right r.goals both one (0, omega arith, refl)),
+      subst (λ gs. Contains gs other) (sym is) (Contains-append_right r.goals both other (1, omega arith, refl)),
+    )

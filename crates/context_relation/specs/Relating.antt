@@ -23,7 +23,9 @@
 --   MakesToRelate .. a b                     which variables and universes are made
 --   BuildsNoMore .. a b result               of what all is built that is bound and registered
 --   AnswersAsked .. g e v a b result         two types of which one goal is asked are related by just that goal
-use Rattle.std.specs.Prelude.{◌≡◌, ◌+◌, ◌<◌, ◌≤◌, ℕ, List, [], ◌∷◌, Option, IsTrue, IfOk, Result, Ok, Err}
+--   TaintsForError .. a b result             of an error with another type that is recorded, and nothing else
+--   AsksIfOpen .. e v a b result             two types over one item are asked about where an argument is left open
+use Rattle.std.specs.Prelude.{◌≡◌, ◌≢◌, ◌⊎◌, ◌+◌, ◌<◌, ◌≤◌, ℕ, List, [], ◌∷◌, Contains, Option, IsTrue, IfOk, Result, Ok, Err}
 use Rattle.std.specs.Global.{Vec}
 use Rattle.term_enums.specs.declared.Variance.{Variance}
 use Rattle.term_enums.specs.declared.Variance.TheVariants.{Invariant}
@@ -37,8 +39,8 @@ use Rattle.relation_folds.specs.declared.error.RelateFault.{RelateFault}
 use Rattle.relation_folds.specs.declared.error.RelateFault.TheVariants.{Memory}
 use Rattle.relation_folds.specs.Faults.{IfUnrelated, IfSpent}
 use Rattle.relation_semantics.specs.Stores.{IsTermIn}
-use Rattle.relation_semantics.specs.Goals.{Goal as GoalOf, goals_of, goal_of}
-use Rattle.relation_semantics.specs.Steps.{MakesToInstantiate}
+use Rattle.relation_semantics.specs.Goals.{Goal as GoalOf, goals_of, goal_of, well_formed_predicate}
+use Rattle.relation_semantics.specs.Steps.{MakesToInstantiate, Taints}
 use Rattle.relation_semantics.specs.Alphabets.{StaysBuilt}
 use Rattle.relation_semantics.specs.FirstOrder.{IsFirstOrderStore}
 use Rattle.relation_semantics.specs.Outcomes.{NoEqualTerms, Exact, NoUnifier}
@@ -53,7 +55,9 @@ use Rattle.relation_steps.specs.Arguments.{related_tree}
 use Rattle.relation_semantics.specs.Contexts.{Context, DoesNothing, RegistersGoals}
 use Rattle.term_enums.specs.declared.StructurallyRelateAliases.{StructurallyRelateAliases}
 use Rattle.relation_combining.specs.Solving.{solver_settings}
-use Rattle.relation_steps.specs.Alone.{OfAlone}
+use Rattle.relation_steps.specs.Alone.{OfTypes, OfAlone, OfError}
+use Rattle.relation_steps.specs.Arguments.{AreOverItem}
+use Rattle.relation_steps.specs.Bivariance.{HasOpenArgument}
 
 -- What is related of a value in a context.
 abbrev pub term_in : {Key Id Name A : Type 0} → Context Key Id Name → Option Head → (Meaning Key Id Name → A → Tree) →
@@ -180,3 +184,20 @@ module _ {S Key Id Name A : Type 0} (state : S → Context Key Id Name) (old new
       Result (Vec (Goal Key (PredicateKey Key))) (RelateFault Key Id Name) → Type 0
   AnswersAsked g e v a b result = OfAlone (solver_settings g (state old).setup) (state old).store v (term a) (term b)
       (λ t p. AnswersAlone e p result)
+
+  -- Of two different types of which one is an error and none a type variable, as they are read at once, it is recorded that
+  -- an error was met, and nothing else, and no goal is answered. So it is where a growth was refused.
+  abbrev pub TaintsForError : A → A → Result (Vec (Goal Key (PredicateKey Key))) (RelateFault Key Id Name) → Type 0
+  TaintsForError a b result = OfError (state old).store (term a) (term b)
+      (Taints (state old).store (state new).store × IfOk result (λ goals. goals.items ≡ []))
+
+  -- Of two different types that are read as types over one item, related at covariance or contravariance, goals ask whether
+  -- each is well formed, where an argument of either that the item declares bivariant is left open by what is recorded then.
+  abbrev pub AsksIfOpen : ParamEnvKey Key → Variance → A → A →
+      Result (Vec (Goal Key (PredicateKey Key))) (RelateFault Key Id Name) → Type 0
+  AsksIfOpen e v a b result = OfTypes (state old).store (term a) (term b) (λ x y. IfOk result (λ goals.
+      let c = items_of (state old).meaning in let st = (state new).store in
+      let gs = goals_of (state new).meaning goals.items in let env = ((state old).meaning).param_env e in
+      v ≢ Invariant → (d : ℕ) (ts us : Tree) → AreOverItem d x y ts us →
+      HasOpenArgument c st d ts ⊎ HasOpenArgument c st d us →
+      Contains gs (goal_of env (well_formed_predicate x)) × Contains gs (goal_of env (well_formed_predicate y))))

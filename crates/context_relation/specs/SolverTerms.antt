@@ -16,9 +16,9 @@ use Rattle.relation_semantics.specs.Contexts.{Context}
 use Rattle.relation_semantics.specs.Lawful.{State, HasRelated, RemembersAtMost}
 use Rattle.context_relation.specs.declared.relation.SolverRelating.{SolverRelating}
 use Rattle.relation_combining.specs.Combining.{ConstsCombine}
-use Rattle.relation_steps.specs.Keyed.{RelatedRegions, SteppedConsts, SteppedTys, TysStepAlone, AreOver, NotedTys}
-use Rattle.relation_steps.specs.Keyed.{ConstsStepRecords, TysStepRecords, RecordsAsked, ShownTys}
-use Rattle.relation_combining.specs.Bivariance.{AsksOfOver}
+use Rattle.relation_steps.specs.Keyed.{RelatedRegions, SteppedConsts, SteppedTys, TysStepAtOnce, AreOver, NotedTys}
+use Rattle.relation_steps.specs.Keyed.{ConstsStepRecords, TysStepRecords, RecordsAsked, ShownTys, TysAskOpen}
+use Rattle.relation_steps.specs.Bivariance.{AsksOfOver}
 use Rattle.relation_goals.specs.Emitting.{AddsGoals, RegistersSubtype, goals_in}
 use Rattle.relation_steps.specs.Rounds.{OpenedBinders}
 use Rattle.relation_combining.specs.Solving.{solving_through, solver_manner}
@@ -112,12 +112,13 @@ module _ {Infcx Interner Key Id Name Span : Type 0} (state : Infcx → Context K
       SolverRelating Infcx Interner Key Id Name Span → TyKey Key → TyKey Key → Type 0
   SolverKeepsMemory r q a b = KeepsMemory (solver_through r) (solver_through q) a b
 
-  -- Of two types of which one goal is asked it was a step by registering that alone.
-  abbrev pub SolverStepsAlone : SolverRelating Infcx Interner Key Id Name Span →
+  -- Of two types of which one goal is asked it was a step by registering that alone, and of an error with another type by
+  -- recording that.
+  abbrev pub SolverStepsAtOnce : SolverRelating Infcx Interner Key Id Name Span →
       SolverRelating Infcx Interner Key Id Name Span → TyKey Key → TyKey Key →
       Result (Step (TyKey Key)) (RelateFault Key Id Name) → Type 0
-  SolverStepsAlone r q a b result =
-      TysStepAlone solver_manner (solver_through r) (solver_through q) a b result
+  SolverStepsAtOnce r q a b result =
+      TysStepAtOnce solver_manner (solver_through r) (solver_through q) a b result
 
   -- It recorded of two bare types, of two bare constants, or of two regions just what they ask for.
   abbrev pub SolverRecordsTys : SolverRelating Infcx Interner Key Id Name Span →
@@ -205,6 +206,12 @@ module _ {Infcx Interner Key Id Name Span : Type 0} (state : Infcx → Context K
       Result X (RelateFault Key Id Name) → Type 0
   SolverAsksWellFormed r q a b result = AsksOfOver (solver_through r) (solver_through q) a b result
 
+  -- It was asked that they are well formed, where an argument is left open.
+  abbrev pub SolverAsksOpen : {X : Type 0} → SolverRelating Infcx Interner Key Id Name Span →
+      SolverRelating Infcx Interner Key Id Name Span → TyKey Key → TyKey Key →
+      Result X (RelateFault Key Id Name) → Type 0
+  SolverAsksOpen r q a b result = TysAskOpen solver_manner (solver_through r) (solver_through q) a b result
+
   -- No goal was registered.
   abbrev pub KeepsGoals : SolverRelating Infcx Interner Key Id Name Span →
       SolverRelating Infcx Interner Key Id Name Span → Type 0
@@ -221,7 +228,8 @@ module _ {Infcx Interner Key Id Name Span : Type 0} (state : Infcx → Context K
         SolverRelating Infcx Interner Key Id Name Span → A → A → Result A (RelateFault Key Id Name) → Type 0
     SolverRelated r q a b result = RelatedTerms solver_manner over tree (solver_at r) (solver_after r q) a b result
 
-    -- Two type variables were related by registering just that the one is a subtype of the other.
+    -- Two types of which one goal is asked were related by registering that alone, and an error with another by recording
+    -- that.
     abbrev pub SolverRegisters : SolverRelating Infcx Interner Key Id Name Span →
         SolverRelating Infcx Interner Key Id Name Span → A → A → Result A (RelateFault Key Id Name) → Type 0
     SolverRegisters r q a b result = TermsRegister solver_manner over tree (solver_at r) (solver_after r q) a b result

@@ -5,10 +5,11 @@ ghost use Rattle.relation_semantics.specs.Lawful.{RelatesByDeclared};
 ghost use Rattle.relation_steps.specs.Rounds.{AskedBinders};
 ghost use Rattle.relation_combining.specs.Solving.{solver_manner};
 ghost use Rattle.context_relation.specs.SolverTerms.{KeepsEnvironment, KeepsGoals, SolverAsked, SolverRelated};
-ghost use Rattle.context_relation.specs.SolverTerms.{SolverAsksWellFormed, SolverIsOver, SolverNotedTys, SolverOpened};
+ghost use Rattle.context_relation.specs.SolverTerms.{SolverAsksOpen, SolverAsksWellFormed, SolverIsOver};
+ghost use Rattle.context_relation.specs.SolverTerms.{SolverNotedTys, SolverOpened};
 ghost use Rattle.context_relation.specs.SolverTerms.{SolverRecordsAsked, SolverRecordsConsts, SolverRecordsTys};
 ghost use Rattle.context_relation.specs.SolverTerms.{SolverRegisters, SolverRelatedRegions, SolverRemembersTys};
-ghost use Rattle.context_relation.specs.SolverTerms.{SolverShownTys, SolverStepped, SolverSteps, SolverStepsAlone};
+ghost use Rattle.context_relation.specs.SolverTerms.{SolverShownTys, SolverStepped, SolverSteps, SolverStepsAtOnce};
 ghost use Rattle.context_relation.specs.SolverTerms.{SolverStepsBinders, SolverStepsConsts, SolverStepsRegions};
 ghost use Rattle.context_relation.specs.SolverTerms.{SolverStepsTys, SolverTakes, solver_through};
 
@@ -195,7 +196,7 @@ impl<'a, Infcx: InferCtxtLike> TypeRelation<Infcx::Interner> for SolverRelating<
         requires asked { SolverTakes Infcx.state (λ m. m.ty) self.old a.now b.now }
         ensures stepped { SolverSteps Infcx.state self.old self.new a.now b.now result }
         ensures records { SolverRecordsTys Infcx.state self.old self.new a.now b.now result }
-        ensures registers { SolverStepsAlone Infcx.state self.old self.new a.now b.now result }
+        ensures registers { SolverStepsAtOnce Infcx.state self.old self.new a.now b.now result }
         ensures steps { SolverStepsTys Infcx.state self.old self.new a.now b.now result }
         ensures remembers { SolverRemembersTys Infcx.state self.old self.new a.now b.now result }
     {
@@ -276,6 +277,7 @@ impl<'a, Infcx: InferCtxtLike> TypeRelation<Infcx::Interner> for SolverRelating<
         requires over { SolverIsOver Infcx.state self.old def_id.now a_ty.now b_ty.now a_args.now b_args.now }
         requires related { SolverShownTys Infcx.state self.old a_ty.now b_ty.now }
         ensures noted { SolverNotedTys Infcx.state self.old self.new a_ty.now b_ty.now result }
+        ensures asks { SolverAsksOpen Infcx.state self.old self.new a_ty.now b_ty.now result }
         ensures registers { SolverAsksWellFormed Infcx.state self.old self.new a_ty.now b_ty.now result }
     {
         self.step_ty_args(a_ty, b_ty, def_id, a_args, b_args)

@@ -14,7 +14,7 @@ ghost use Rattle.context_relation.specs.SolverTerms.{KeepsGoals, SolverCombinesS
 ghost use Rattle.context_relation.specs.SolverTerms.{SolverOpened, SolverRelatedRegions, SolverAsksWellFormed};
 ghost use Rattle.context_relation.specs.SolverTerms.{SolverIsOver, SolverNotedTys, SolverStepped, SolverSteps};
 ghost use Rattle.context_relation.specs.SolverTerms.{SolverStepsBinders, SolverStepsConsts, SolverStepsRead};
-ghost use Rattle.context_relation.specs.SolverTerms.{SolverStepsRegions, SolverStepsAlone, SolverStepsTys};
+ghost use Rattle.context_relation.specs.SolverTerms.{SolverStepsRegions, SolverStepsAtOnce, SolverStepsTys};
 ghost use Rattle.context_relation.specs.SolverTerms.{SolverTakes, SolverRemembersTys, SolverRemembersRead};
 ghost use Rattle.context_relation.specs.SolverTerms.{SolverKeepsMemory, solver_through};
 
@@ -66,7 +66,7 @@ impl<'a, Infcx: InferCtxtLike> SolverRelating<'a, Infcx> {
         ensures stepped { SolverSteps Infcx.state self.old self.new a.now b.now result }
         ensures steps { SolverStepsTys Infcx.state self.old self.new a.now b.now result }
         ensures remembers { SolverRemembersTys Infcx.state self.old self.new a.now b.now result }
-        ensures alone { SolverStepsAlone Infcx.state self.old self.new a.now b.now result }
+        ensures alone { SolverStepsAtOnce Infcx.state self.old self.new a.now b.now result }
     {
         if a == b {
             return Ok(Step::Done(*a));

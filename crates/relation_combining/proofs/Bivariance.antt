@@ -12,7 +12,7 @@ use Rattle.relation_terms.specs.Trees.{Tree, leaf, node, bind, nil, cons, nth, a
 use Rattle.relation_semantics.specs.Alphabets.{Alphabet, IsBuiltOf, BindsBuiltOf}
 use Rattle.relation_semantics.specs.Relation.{Items}
 use Rattle.relation_steps.specs.Arguments.{AreOverItem, adts, functions}
-use Rattle.relation_combining.specs.Bivariance.{is_left_open, IsOpenAt, HasOpenArgument, TellsOpen, TellsEitherOpen, RegistersWellFormed, AsksWellFormed, AsksOfOver}
+use Rattle.relation_steps.specs.Bivariance.{is_left_open, IsOpenAt, HasOpenArgument, TellsOpen, TellsEitherOpen, RegistersWellFormed, AsksWellFormed, AsksOfOver}
 use Rattle.relation_steps.specs.Keyed.{AreOver}
 use Rattle.relation_semantics.specs.Lawful.{State, items_of, items_in}
 use Rattle.relation_semantics.specs.Goals.{Goal, HasBivariantPart}

@@ -7,7 +7,7 @@ use Rattle.relation_terms.specs.Trees.{Tree, known}
 use Rattle.relation_terms.specs.Meaning.{Meaning, Extends}
 use Rattle.relation_folds.specs.declared.error.RelateFault.{RelateFault}
 use Rattle.relation_steps.specs.Arguments.{AreOverItem}
-use Rattle.relation_combining.specs.Bivariance.{HasOpenArgument, RegistersWellFormed}
+use Rattle.relation_steps.specs.Bivariance.{HasOpenArgument, RegistersWellFormed}
 use Rattle.relation_goals.specs.Emitting.{AddsGoals, KnowsPredicate, goals_in, with_goals}
 use Rattle.relation_semantics.specs.Goals.{Goal, ByDeclared, IsQuiet, goal_of, well_formed_predicate, HasBivariantPart, of_type}
 use Rattle.relation_semantics.specs.Alphabets.{Alphabet, IsBuiltOf, BindsBuiltOf, IsGoalOf}

@@ -1,4 +1,3 @@
-pub mod Bivariance
 pub mod ClosedTerms
 pub mod Combining
 pub mod ConstantLaws

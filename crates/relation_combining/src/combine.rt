@@ -4,7 +4,7 @@ ghost use Rattle.std.specs.Borrow.{sem, Lends};
 ghost use Rattle.relation_terms.specs.Trees.{known, count, nth};
 ghost use Rattle.relation_terms.specs.Meaning.{arg_tree};
 ghost use Rattle.term_enums.specs.declared.Variance.TheVariants.{Bivariant};
-ghost use Rattle.relation_combining.specs.Bivariance.{is_left_open, TellsOpen, TellsEitherOpen, AsksWellFormed};
+ghost use Rattle.relation_steps.specs.Bivariance.{is_left_open, TellsOpen, TellsEitherOpen, AsksWellFormed};
 ghost use Rattle.term_enums.specs.declared.AliasRelationDirection.TheVariants.{Equate};
 ghost use Rattle.relation_combining.specs.Combining.{TysCombine, ConstsCombine, CombinesShallow, TaintsAlone};
 ghost use Rattle.relation_combining.specs.Combining.{KeepsKept, AreFormedConsts, StepsUnlessVars};

@@ -11,6 +11,7 @@ pub mod Kept
 pub mod Looping
 pub mod MadeAnew
 pub mod Outlines
+pub mod OverItems
 pub mod PartErrors
 pub mod PartSizes
 pub mod PredicateForms

@@ -8,7 +8,7 @@ ghost use Rattle.relation_semantics.specs.Relation.{IsError};
 ghost use Rattle.relation_semantics.specs.Errors.{FormError, ConstFormError, AreOfOneForm, AreOfOneConst};
 ghost use Rattle.relation_semantics.specs.Errors.{HaveNoError};
 ghost use Rattle.relation_semantics.specs.Parts.{IsFormedConst, IsByParts, IsComparedPart, direct_parts, const_parts_of};
-ghost use Rattle.relation_steps.specs.Keyed.{ShownTys, NotedTys, AreOver};
+ghost use Rattle.relation_steps.specs.Keyed.{ShownTys, NotedTys, TysAskOpen, AreOver};
 ghost use Rattle.relation_steps.specs.Terms.{AskedTerms};
 ghost use Rattle.relation_recursion.specs.Comparing.{AreOfOneFormBy, PartsDiffer, nth_part, nth_const_part};
 ghost use Rattle.part_variances.specs.Handing.{named_place};
@@ -202,7 +202,8 @@ pub(crate) fn note_declared<I: Interner, R: TypeRelation<I>>(
     requires asked { AskedTerms R.manner None (λ m. m.ty) (R.state r.old) a.now b.now }
     requires over { AreOver (R.state r.old) def_id.now a.now b.now a_args.now b_args.now }
     requires related { ShownTys R.manner (R.state r.old) a.now b.now }
-    ensures { NotedTys (R.state r.old) (R.state r.new) a.now b.now result }
+    ensures noted { NotedTys (R.state r.old) (R.state r.new) a.now b.now result }
+    ensures asks { TysAskOpen R.manner (R.state r.old) (R.state r.new) a.now b.now result }
 {
     if r.item_variances(def_id).is_none() {
         return Ok(());
@@ -222,7 +223,8 @@ pub(crate) fn note_args<I: Interner, R: TypeRelation<I>>(
     requires asked { AskedTerms R.manner None (λ m. m.ty) (R.state r.old) a.now b.now }
     requires one_form { AreOfOneForm ((R.state r.old).meaning.ty a.now) ((R.state r.old).meaning.ty b.now) }
     requires related { ShownTys R.manner (R.state r.old) a.now b.now }
-    ensures { NotedTys (R.state r.old) (R.state r.new) a.now b.now result }
+    ensures noted { NotedTys (R.state r.old) (R.state r.new) a.now b.now result }
+    ensures asks { TysAskOpen R.manner (R.state r.old) (R.state r.new) a.now b.now result }
 {
     let left = r.cx().ty_kind(a);
     match &left {

@@ -11,6 +11,7 @@ ghost use Rattle.relation_semantics.specs.Parts.{IsFormed, IsFormedConst, IsByPa
 ghost use Rattle.relation_semantics.specs.Parts.{IsBinderPart, ArePaired};
 ghost use Rattle.relation_semantics.specs.Making.{arg_sort};
 ghost use Rattle.relation_steps.specs.Arguments.{IsSkipped};
+ghost use Rattle.relation_steps.specs.Keyed.{TysAskOpen};
 ghost use Rattle.relation_recursion.specs.Comparing.{AreOfOneFormBy, object_members};
 ghost use Rattle.relation_recursion.specs.PredicateForms.{predicate_form, form_of_part};
 ghost use Rattle.relation_steps.specs.Terms.{AskedTerms, AskedAt, RelatedTerms, RelatedAt, RelatedTermForms};
@@ -200,7 +201,8 @@ pub fn structurally_relate_tys<I: Interner, R: TypeRelation<I>>(
     requires asked { AskedTerms R.manner None (λ m. m.ty) (R.state r.old) a.now b.now }
     requires a_formed { IsFormed ((R.state r.old).meaning.ty a.now) }
     requires b_formed { IsFormed ((R.state r.old).meaning.ty b.now) }
-    ensures { RelatedTermForms R.manner None (λ m. m.ty) (R.state r.old) (R.state r.new) a.now b.now result }
+    ensures related { RelatedTermForms R.manner None (λ m. m.ty) (R.state r.old) (R.state r.new) a.now b.now result }
+    ensures asks { TysAskOpen R.manner (R.state r.old) (R.state r.new) a.now b.now result }
 {
     if is_error_of::<I, R>(r, a) {
         return Ok(*a);

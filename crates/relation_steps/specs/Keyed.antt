@@ -24,7 +24,8 @@ use Rattle.relation_semantics.specs.Lawful.{State, Manners, Related, Shown, Step
 use Rattle.relation_semantics.specs.Making.{Made, form_over, const_over}
 use Rattle.relation_semantics.specs.Parts.{IsFormed, IsFormedConst, head_of, const_head_of}
 use Rattle.relation_semantics.specs.Relation.{plain, part_at}
-use Rattle.relation_steps.specs.Alone.{StepsAlone}
+use Rattle.relation_steps.specs.Alone.{StepsAtOnce}
+use Rattle.relation_steps.specs.Bivariance.{HasAskedOpen}
 use Rattle.relation_steps.specs.Terms.{RelatedTerms}
 
 module _ {Key Id Name : Type 0} where
@@ -93,11 +94,19 @@ module _ {Key Id Name : Type 0} where
   ConstsStepRecords M r q a b result =
       StepRecords M r q (q.meaning).const_ ((r.meaning).const_ a) ((r.meaning).const_ b) result
 
-  -- A step was taken of two types of which one goal is asked by registering that alone, where the relation promises it.
-  abbrev pub TysStepAlone : Manners → State Key Id Name → State Key Id Name → TyKey Key → TyKey Key →
+  -- A step was taken of two types of which one goal is asked by registering that alone, and of an error and another by
+  -- recording that, where the relation promises it.
+  abbrev pub TysStepAtOnce : Manners → State Key Id Name → State Key Id Name → TyKey Key → TyKey Key →
       Result (Step (TyKey Key)) (RelateFault Key Id Name) → Type 0
-  TysStepAlone M r q a b result =
-      StepsAlone M r q (q.meaning).ty ((r.meaning).ty a) ((r.meaning).ty b) result
+  TysStepAtOnce M r q a b result =
+      StepsAtOnce M r q (q.meaning).ty ((r.meaning).ty a) ((r.meaning).ty b) result
+
+  -- Where the relation promises what it registers at once, it was asked of two types over an item that they are well
+  -- formed, where an argument is left open; or a fault was told.
+  abbrev pub TysAskOpen : {X : Type 0} → Manners → State Key Id Name → State Key Id Name → TyKey Key → TyKey Key →
+      Result X (RelateFault Key Id Name) → Type 0
+  TysAskOpen M r q a b result = (M r.kept.settings).registers_alone →
+      IfOk result (λ _. HasAskedOpen r q ((r.meaning).ty a) ((r.meaning).ty b))
 
   -- Two types were related: all is known of them that is known of such.
   abbrev pub ShownTys : Manners → State Key Id Name → TyKey Key → TyKey Key → Type 0

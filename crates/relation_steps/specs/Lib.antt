@@ -1,5 +1,6 @@
 pub mod Alone
 pub mod Arguments
+pub mod Bivariance
 pub mod Following
 pub mod Keyed
 pub mod Rounds

@@ -9,7 +9,7 @@ use Rattle.relation_terms.specs.Meaning.{Meaning, Extends}
 use Rattle.relation_folds.specs.declared.error.RelateFault.{RelateFault}
 use Rattle.relation_semantics.specs.Lawful.{State, Manners, Asked, Related, RelatedForms}
 use Rattle.relation_steps.specs.Arguments.{related_tree}
-use Rattle.relation_steps.specs.Alone.{RelatesAlone}
+use Rattle.relation_steps.specs.Alone.{RelatesAtOnce}
 
 -- What is asked of two known values holds on while meanings are added to.
 abbrev pub HoldsOn : {Key Id Name A : Type 0} → (Meaning Key Id Name → A → Tree) → (Meaning Key Id Name → A → A → Type 0) →
@@ -42,7 +42,8 @@ module _ {Key Id Name A : Type 0} (M : Manners) (over : Option Head) (tree : Mea
   RelatedTermForms r q a b result = RelatedForms M r q r.ambient (related_tree over (tree r.meaning a))
       (related_tree over (tree r.meaning b)) (λ x. related_tree over (tree q.meaning x)) result
 
-  -- Two types of which one goal is asked were related by registering that alone, where the relation promises it.
+  -- Two types of which one goal is asked were related by registering that alone, and an error with another by recording
+  -- that, where the relation promises it.
   abbrev pub TermsRegister : State Key Id Name → State Key Id Name → A → A → Result A (RelateFault Key Id Name) → Type 0
-  TermsRegister r q a b result = RelatesAlone M r q r.ambient (related_tree over (tree r.meaning a))
+  TermsRegister r q a b result = RelatesAtOnce M r q r.ambient (related_tree over (tree r.meaning a))
       (related_tree over (tree r.meaning b)) result

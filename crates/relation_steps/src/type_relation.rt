@@ -9,8 +9,8 @@ ghost use Rattle.relation_semantics.specs.Lawful.{RemembersRelated};
 ghost use Rattle.relation_steps.specs.Following.{FollowsInterner};
 ghost use Rattle.relation_steps.specs.Rounds.{AskedBinders, OpenedBinders};
 ghost use Rattle.relation_steps.specs.Keyed.{RelatedRegions, ShownTys, TysAskNone, SteppedConsts, SteppedTys};
-ghost use Rattle.relation_steps.specs.Keyed.{TysStepRecords, ConstsStepRecords, TysStepAlone, AreOver, RecordsAsked};
-ghost use Rattle.relation_steps.specs.Keyed.{NotedTys, variances_in, Decides};
+ghost use Rattle.relation_steps.specs.Keyed.{TysStepRecords, ConstsStepRecords, TysStepAtOnce, AreOver, RecordsAsked};
+ghost use Rattle.relation_steps.specs.Keyed.{NotedTys, TysAskOpen, variances_in, Decides};
 ghost use Rattle.relation_steps.specs.Terms.{AskedTerms};
 
 use relation_folds::error::RelateResult;
@@ -82,7 +82,7 @@ pub trait TypeRelation<I: Interner>: HasState<I> {
         requires asked { AskedTerms manner None (λ m. m.ty) (Self.state self.old) a.now b.now }
         ensures stepped { SteppedTys manner (Self.state self.old) (Self.state self.new) a.now b.now result }
         ensures records { TysStepRecords manner (Self.state self.old) (Self.state self.new) a.now b.now result }
-        ensures registers { TysStepAlone manner (Self.state self.old) (Self.state self.new) a.now b.now result };
+        ensures registers { TysStepAtOnce manner (Self.state self.old) (Self.state self.new) a.now b.now result };
 
     /// What comes of two constants. Of two bare ones its answers say what those of `tys` do.
     fn consts(&mut self, a: &Const<I>, b: &Const<I>) -> RelateResult<I, Step<Const<I>>>
@@ -145,7 +145,8 @@ pub trait TypeRelation<I: Interner>: HasState<I> {
         requires by_declared { RelatesByDeclared (Self.state self.old) }
         requires over { AreOver (Self.state self.old) def_id.now a_ty.now b_ty.now a_args.now b_args.now }
         requires related { ShownTys manner (Self.state self.old) a_ty.now b_ty.now }
-        ensures { NotedTys (Self.state self.old) (Self.state self.new) a_ty.now b_ty.now result };
+        ensures noted { NotedTys (Self.state self.old) (Self.state self.new) a_ty.now b_ty.now result }
+        ensures asks { TysAskOpen manner (Self.state self.old) (Self.state self.new) a_ty.now b_ty.now result };
 
     // Its keys mean what they mean to the interner.
     ghost reads: { (r : Self) → (Self.state r).meaning ≡ I.meaning (interner r) };

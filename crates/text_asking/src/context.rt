@@ -2,6 +2,7 @@
 ghost use Rattle.std.specs.Prelude.{◌≡◌, ℕ, suc, ◌<◌, ◌≤◌, max, IfNone, IfOk, OnOk};
 ghost use Rattle.relation_terms.specs.Heads.{VarKind};
 ghost use Rattle.relation_terms.specs.Meaning.{Extends};
+ghost use Rattle.context_relation.specs.Relating.{TaintsForError};
 ghost use Rattle.type_relations.specs.Contract.{CanRelate, RelatesBoth, LosesNone, FaultIsTrue, AsksOnly, LeavesRest};
 ghost use Rattle.variable_tables.specs.Tables.{IsLawful};
 ghost use Rattle.text_needs.specs.Needs.{Reaches};
@@ -293,6 +294,7 @@ pub(super) fn relate<C: InferCtxtLike, T: Relate<C::Interner>>(
     ensures asks { let g = aliases_of relation in let v = variance_of relation in
         AsksOnly C.state ctx.old ctx.new T.over T.tree g param_env v lhs rhs result }
     ensures leaves { LeavesRest C.state ctx.old ctx.new T.over T.tree lhs rhs result }
+    ensures taints { TaintsForError C.state ctx.old ctx.new T.over T.tree lhs rhs result }
 {
     match relation {
         Relation::At(variance) => ctx.relate(param_env, lhs, variance, rhs, span),

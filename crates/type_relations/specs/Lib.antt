@@ -1,7 +1,7 @@
 pub mod Contract
 pub use Rattle.relation_steps.specs.Alone
 pub use Rattle.relation_steps.specs.Arguments
-pub use Rattle.relation_combining.specs.Bivariance
+pub use Rattle.relation_steps.specs.Bivariance
 pub use Rattle.relation_recursion.specs.Bodies
 pub use Rattle.context_relation.specs.Closed
 pub use Rattle.relation_combining.specs.ClosedTerms

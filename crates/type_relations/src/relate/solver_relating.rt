@@ -3,7 +3,7 @@ ghost use Rattle.std.specs.Prelude.{◌≢◌, []};
 ghost use Rattle.term_enums.specs.declared.Variance.TheVariants.{Invariant};
 ghost use Rattle.term_enums.specs.declared.StructurallyRelateAliases.TheVariants.{No, Yes};
 ghost use Rattle.relation_semantics.specs.Contexts.{KnowsEnv};
-ghost use Rattle.context_relation.specs.Relating.{AnswersAsked};
+ghost use Rattle.context_relation.specs.Relating.{AnswersAsked, TaintsForError, AsksIfOpen};
 ghost use Rattle.context_relation.specs.Completing.{Complete, RelatesWhereAsked};
 ghost use Rattle.context_relation.specs.Closed.{LeavesClosed, AsksNothing, SpendsForVariables};
 ghost use Rattle.relation_steps.specs.Terms.{AskedTerms, RelatedTerms, TermsRegister};
@@ -73,6 +73,14 @@ pub trait RelateExt: InferCtxtLike {
     /// Both stand there by their roots, and the first is the expected one. So does an alias with another type, where
     /// aliases are left to goals, and neither is an error or a type variable, at each variance: that goal alone.
     ///
+    /// Of two different types of which one is an error and neither a type variable, as they are read by what is
+    /// recorded, it is recorded that an error was met, and nothing else, also where a growth was refused; and no goal is
+    /// answered.
+    ///
+    /// Of two different types over one item, as they are read, both goals that they are well formed are answered at
+    /// `Covariant` and `Contravariant`, where a variable but of a region is left in an argument of either that the item
+    /// declares bivariant.
+    ///
     /// Answers `Unrelated` only where no assignment that satisfied what was recorded makes the two one: with the error
     /// of the two, or of two parts that stand at one place, the left side's first; or of a variable that can't be bound
     /// to the other side, in which it stands itself, or a placeholder that it can't name. Of first-order terms in a
@@ -112,7 +120,9 @@ pub trait RelateExt: InferCtxtLike {
         ensures met { RelatesWhereAsked Self.state self.old self.new T.over T.tree param_env variance lhs rhs result }
         ensures closed { LeavesClosed Self.state self.old self.new T.over T.tree lhs rhs result }
         ensures no_goals { AsksNothing Self.state self.old self.new T.over T.tree lhs rhs result }
-        ensures alone { AnswersAsked Self.state self.old self.new T.over T.tree No param_env variance lhs rhs result };
+        ensures alone { AnswersAsked Self.state self.old self.new T.over T.tree No param_env variance lhs rhs result }
+        ensures taints { TaintsForError Self.state self.old self.new T.over T.tree lhs rhs result }
+        ensures asks_open { AsksIfOpen Self.state self.old self.new T.over T.tree param_env variance lhs rhs result };
 
     /// Relates two at `Invariant`, aliases by their items and arguments: what `relate` relates, but that no alias is
     /// left to a goal, and none gives way to a variable where a variable is bound to what it stands in. All that
@@ -135,7 +145,8 @@ pub trait RelateExt: InferCtxtLike {
         ensures complete { Complete Self.state self.old self.new T.over T.tree Yes param_env Invariant lhs rhs result }
         ensures met { RelatesWhereAsked Self.state self.old self.new T.over T.tree param_env Invariant lhs rhs result }
         ensures closed { LeavesClosed Self.state self.old self.new T.over T.tree lhs rhs result }
-        ensures no_goals { AsksNothing Self.state self.old self.new T.over T.tree lhs rhs result };
+        ensures no_goals { AsksNothing Self.state self.old self.new T.over T.tree lhs rhs result }
+        ensures taints { TaintsForError Self.state self.old self.new T.over T.tree lhs rhs result };
 }
 
 impl<Infcx: InferCtxtLike> RelateExt for Infcx {
@@ -158,6 +169,8 @@ impl<Infcx: InferCtxtLike> RelateExt for Infcx {
         ensures closed { LeavesClosed Infcx.state self.old self.new T.over T.tree lhs rhs result }
         ensures no_goals { AsksNothing Infcx.state self.old self.new T.over T.tree lhs rhs result }
         ensures alone { AnswersAsked Infcx.state self.old self.new T.over T.tree No param_env variance lhs rhs result }
+        ensures taints { TaintsForError Infcx.state self.old self.new T.over T.tree lhs rhs result }
+        ensures asks_open { AsksIfOpen Infcx.state self.old self.new T.over T.tree param_env variance lhs rhs result }
     {
         relate_as(
             self,
@@ -187,6 +200,7 @@ impl<Infcx: InferCtxtLike> RelateExt for Infcx {
         ensures met { RelatesWhereAsked Infcx.state self.old self.new T.over T.tree param_env Invariant lhs rhs result }
         ensures closed { LeavesClosed Infcx.state self.old self.new T.over T.tree lhs rhs result }
         ensures no_goals { AsksNothing Infcx.state self.old self.new T.over T.tree lhs rhs result }
+        ensures taints { TaintsForError Infcx.state self.old self.new T.over T.tree lhs rhs result }
     {
         relate_as(
             self,
@@ -218,6 +232,8 @@ fn relate_as<Infcx: InferCtxtLike, T: Relate<Infcx::Interner>>(
     ensures leaves { LeavesRest Infcx.state infcx.old infcx.new T.over T.tree lhs rhs result }
     ensures alone { let e = param_env in
         AnswersAsked Infcx.state infcx.old infcx.new T.over T.tree aliases e variance lhs rhs result }
+    ensures taints { TaintsForError Infcx.state infcx.old infcx.new T.over T.tree lhs rhs result }
+    ensures asks_open { AsksIfOpen Infcx.state infcx.old infcx.new T.over T.tree param_env variance lhs rhs result }
     ensures needs { SpendsForVariables Infcx.state infcx.old infcx.new T.over T.tree lhs rhs result }
 {
     if lhs == rhs {

@@ -27,6 +27,6 @@ returns-clause-records g c = λ promised bare. let r = c.args.self.now in (
       (λ z o. absurd o),
 )
 
--- It promises nothing of variables.
+-- It promises nothing of what is registered at once.
 pub returns-clause-registers : goal.returns-clause-registers
-returns-clause-registers g c = λ h. absurd h
+returns-clause-registers g c = (λ h. absurd h, λ h. absurd h, λ h. absurd h)

@@ -3,7 +3,7 @@ use Rattle.std.proofs.lemmas.Bool.{false≢true}
 use Rattle.relation_terms.specs.Trees.{known}
 use Rattle.relation_folds.specs.declared.error.RelateFault.TheVariants.{Memory}
 use Rattle.relation_semantics.specs.ContextCalls.{Grows}
-use Rattle.relation_combining.specs.Bivariance.{HasOpenArgument}
+use Rattle.relation_steps.specs.Bivariance.{HasOpenArgument}
 use Rattle.relation_semantics.specs.Goals.{well_formed_predicate}
 use Rattle.relation_semantics.specs.Lawful.{OnlyMemory, items_of}
 use Rattle.relation_semantics.specs.Stores.{IsSound, IsTermIn}

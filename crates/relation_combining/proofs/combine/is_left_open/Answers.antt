@@ -1,7 +1,7 @@
 use Rattle.std.proofs.Common.{◌≡◌, false, sym, subst, IsTrue}
 use Rattle.relation_terms.specs.Meaning.{arg_tree}
 use Rattle.relation_terms.specs.Trees.{known}
-use Rattle.relation_combining.specs.Bivariance.{is_left_open}
+use Rattle.relation_steps.specs.Bivariance.{is_left_open}
 use Rattle.relation_combining.proofs.Bivariance.{region_closed}
 use Rattle.relation_steps.proofs.Sorted.{region_sorted}
 use Rattle.relation_combining.proofs.combine.is_left_open.Goals as goal

@@ -96,14 +96,14 @@ returns-in_err-note_declared g c =
     (refused_again M r.ambient (m.ty c.args.a_ty.now) (m.ty c.args.b_ty.now)
     (λ k. node (args_head (q.meaning) v) ((q.meaning).args k)) (p.meaning).ty n.field-0.0
     (noted_refused M r.ambient (m.ty c.args.a_ty.now) (m.ty c.args.b_ty.now)
-    (λ k. node (args_head (q.meaning) v) ((q.meaning).args k)) args done (Err n.field-0.0) n.ensures
+    (λ k. node (args_head (q.meaning) v) ((q.meaning).args k)) args done (Err n.field-0.0) n.ensures.noted
     (built_as r.store (((done.passes).extends).ty c.args.a_ty.now (c.requires.asked).left_known)
     (((done.passes).extends).ty c.args.b_ty.now (c.requires.asked).right_known))
     (λ k. node (args_head (q.meaning) v) ((q.meaning).args k)) n.field-0.0 refl))
 
 pub make_over-requires-clause-callable : goal.make_over-requires-clause-callable
 make_over-requires-clause-callable g c cx list e known =
-    let on = extends_on (extends_on ((c.in_ok-args.ensures (args_head (g.R.HasState.state c.args.r.now).meaning c.item_variances-variances.result) refl).passes).extends ((c.in_ok-note_declared.ensures).passes).extends) e in
+    let on = extends_on (extends_on ((c.in_ok-args.ensures (args_head (g.R.HasState.state c.args.r.now).meaning c.item_variances-variances.result) refl).passes).extends ((c.in_ok-note_declared.ensures.noted).passes).extends) e in
     c.requires.callable cx list on known
 
 pub make_over-requires-clause-makes : goal.make_over-requires-clause-makes
@@ -112,7 +112,7 @@ make_over-requires-clause-makes g c cx list res left e post =
     let p = g.R.HasState.state c.note_declared.new.r in
     let n = g.I.Interner.meaning left.now in
     let us = (g.I.Interner.meaning cx.now).args list in
-    let through = extends_on ((c.in_ok-args.ensures (args_head (g.R.HasState.state c.args.r.now).meaning c.item_variances-variances.result) refl).passes).extends ((c.in_ok-note_declared.ensures).passes).extends in
+    let through = extends_on ((c.in_ok-args.ensures (args_head (g.R.HasState.state c.args.r.now).meaning c.item_variances-variances.result) refl).passes).extends ((c.in_ok-note_declared.ensures.noted).passes).extends in
     let same : (p.meaning).ty c.args.a_ty.now ≡ (r.meaning).ty c.args.a_ty.now = through.ty c.args.a_ty.now (c.requires.asked).left_known in
     subst (λ t. IfOk res (λ k. IsTrue (known (n.ty k)) × (n.ty k ≡ node (head_of t) us))) (sym same)
     (c.requires.makes cx list res left (extends_on through e) post)
@@ -134,14 +134,14 @@ returns g c =
     let done = subst₂ (λ a b. Related M r q r.ambient a b (λ k. node (args_head (q.meaning) v) ((q.meaning).args k))
     (Ok args)) (sym is.0) (sym is.1) (c.in_ok-args.ensures (args_head (g.R.HasState.state c.args.r.now).meaning c.item_variances-variances.result) refl) in
     let n = c.in_ok-note_declared in
-    let e = ((n.ensures).passes).extends in
+    let e = ((n.ensures.noted).passes).extends in
     let answer : ArgsKey g.row.I-Key.Denot → Tree = λ k. node (args_head (p.meaning) v) ((p.meaning).args k) in
     let same : answer args ≡ node (args_head (q.meaning) v) ((q.meaning).args args) =
     ap (λ h. node h ((p.meaning).args args)) (args_heads e v) ∙ ap (node (args_head (q.meaning) v)) (e.args args
     (done.verdict).known) in
     let first = (done.passes).extends in
     let noted = noted_related M r.ambient a b (λ k. node (args_head (q.meaning) v) ((q.meaning).args k)) args done
-    (Ok n.field-0) n.ensures (built_as r.store (first.ty c.args.a_ty.now k.left_known) (first.ty c.args.b_ty.now k.right_known))
+    (Ok n.field-0) n.ensures.noted (built_as r.store (first.ty c.args.a_ty.now k.left_known) (first.ty c.args.b_ty.now k.right_known))
     answer same (λ promised bare. (
       first.ty c.args.a_ty.now k.left_known,
       first.ty c.args.b_ty.now k.right_known,
@@ -175,10 +175,10 @@ note_declared-requires-clause-decides g c =
 pub make_over-requires-clause-lawful : goal.make_over-requires-clause-lawful
 make_over-requires-clause-lawful g c =
     let done = c.in_ok-args.ensures (args_head (g.R.HasState.state c.args.r.now).meaning c.item_variances-variances.result) refl in
-    ((c.in_ok-note_declared.ensures).passes).lawful ((done.passes).lawful c.requires.lawful)
+    ((c.in_ok-note_declared.ensures.noted).passes).lawful ((done.passes).lawful c.requires.lawful)
 
 pub make_over-requires-clause-args_known : goal.make_over-requires-clause-args_known
 make_over-requires-clause-args_known g c =
     let done = c.in_ok-args.ensures (args_head (g.R.HasState.state c.args.r.now).meaning c.item_variances-variances.result) refl in
-    let same = (((c.in_ok-note_declared.ensures).passes).extends).args c.in_ok-args.args (done.verdict).known in
+    let same = (((c.in_ok-note_declared.ensures.noted).passes).extends).args c.in_ok-args.args (done.verdict).known in
     subst (λ z. IsTrue (known z)) (sym same) (done.verdict).known

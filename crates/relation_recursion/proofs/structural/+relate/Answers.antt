@@ -58,10 +58,13 @@ use Rattle.relation_recursion.proofs.Kept.{kept_answers, kept_fit, kept_fit_part
 use Rattle.relation_recursion.proofs.Kept.{kept_in, failed_in, answer_known}
 use Rattle.relation_recursion.specs.Keeping.{KeepsAnswer}
 use Rattle.relation_recursion.proofs.Looping.{failed_part, kept_part}
-use Rattle.relation_steps.specs.Alone.{RelatesAlone, StepsAlone}
+use Rattle.relation_steps.specs.Alone.{RelatesAtOnce, StepsAtOnce}
 use Rattle.relation_recursion.proofs.Alone.{formed_ask_none, left_none, right_none, lifetime_none, const_none, no_ty_none, refused_told}
 use Rattle.relation_recursion.proofs.Alone.{done_registers, refused_registers, parts_register, again_registers}
-use Rattle.std.proofs.Common.{Some, None}
+use Rattle.relation_recursion.proofs.Alone.{if_ok_anyhow, none_of_fault, asked_still, asked_then}
+use Rattle.relation_recursion.proofs.OverItems.{error_not_over, by_parts_not_over}
+use Rattle.std.proofs.lemmas.List.{append-nil}
+use Rattle.std.proofs.Common.{Some, None, []}
 use Rattle.relation_terms.proofs.Stays.{extends_on}
 use Rattle.relation_steps.specs.Rounds.{Opened}
 use Rattle.relation_recursion.proofs.Bodies.{opened_related, opened_paired}
@@ -275,7 +278,7 @@ tys-returns-in_err-answer-in-Parts-clause-related g t c =
     let y = (q.meaning).ty c.in-Parts.b in
     let p = g.R.HasState.state c.structurally_relate_tys.new.r in
     let e = c.in_err-answer-in-Parts in
-    let inner = subst (λ z. RelatedForms M q p z x y (p.meaning).ty (Err e.field-0.0)) (step.passes).ambient e.ensures in
+    let inner = subst (λ z. RelatedForms M q p z x y (p.meaning).ty (Err e.field-0.0)) (step.passes).ambient e.ensures.related in
     let failed = as_err c.from_residual-in_err-answer-in-Parts.result e.field-0.0
     c.from_residual-in_err-answer-in-Parts.ensures.0 c.from_residual-in_err-answer-in-Parts.ensures.1 in
     subst (λ z. Related M r p r.ambient a b (p.meaning).ty z) (sym failed)
@@ -295,7 +298,7 @@ tys-tys_done-requires-clause-asked g t c =
     let y = (q.meaning).ty c.in-Parts.b in
     let p = g.R.HasState.state c.structurally_relate_tys.new.r in
     let z = c.in_ok-answer-in-Parts in
-    let inner = subst (λ v. RelatedForms M q p v x y (p.meaning).ty (Ok z.answer)) (step.passes).ambient z.ensures in
+    let inner = subst (λ v. RelatedForms M q p v x y (p.meaning).ty (Ok z.answer)) (step.passes).ambient z.ensures.related in
     let done : Related M r p r.ambient a b (p.meaning).ty (Ok z.answer) =
     parts_related M IsFormed (g.met.R.TypeRelation.sound c.structurally_relate_tys.new.r ((inner.passes).lawful ((step.passes).lawful c.requires.lawful)))
     a b x y (p.meaning).ty (Ok z.answer) step.passes step.verdict step.exact step.full step.built just inner in
@@ -320,7 +323,7 @@ tys-tys_done-requires-clause-related g t c =
     let y = (q.meaning).ty c.in-Parts.b in
     let p = g.R.HasState.state c.structurally_relate_tys.new.r in
     let z = c.in_ok-answer-in-Parts in
-    let inner = subst (λ v. RelatedForms M q p v x y (p.meaning).ty (Ok z.answer)) (step.passes).ambient z.ensures in
+    let inner = subst (λ v. RelatedForms M q p v x y (p.meaning).ty (Ok z.answer)) (step.passes).ambient z.ensures.related in
     let done : Related M r p r.ambient a b (p.meaning).ty (Ok z.answer) =
     parts_related M IsFormed (g.met.R.TypeRelation.sound c.structurally_relate_tys.new.r ((inner.passes).lawful ((step.passes).lawful c.requires.lawful)))
     a b x y (p.meaning).ty (Ok z.answer) step.passes step.verdict step.exact step.full step.built just inner in
@@ -345,7 +348,7 @@ tys-tys_done-requires-clause-alone g t c =
     let y = (q.meaning).ty c.in-Parts.b in
     let p = g.R.HasState.state c.structurally_relate_tys.new.r in
     let z = c.in_ok-answer-in-Parts in
-    let inner = subst (λ v. RelatedForms M q p v x y (p.meaning).ty (Ok z.answer)) (step.passes).ambient z.ensures in
+    let inner = subst (λ v. RelatedForms M q p v x y (p.meaning).ty (Ok z.answer)) (step.passes).ambient z.ensures.related in
     let done : Related M r p r.ambient a b (p.meaning).ty (Ok z.answer) =
     parts_related M IsFormed (g.met.R.TypeRelation.sound c.structurally_relate_tys.new.r ((inner.passes).lawful ((step.passes).lawful c.requires.lawful)))
     a b x y (p.meaning).ty (Ok z.answer) step.passes step.verdict step.exact step.full step.built just inner in
@@ -370,7 +373,7 @@ tys-returns-in_err-tys_done-in-Parts-clause-related g t c =
     let y = (q.meaning).ty c.in-Parts.b in
     let p = g.R.HasState.state c.structurally_relate_tys.new.r in
     let z = c.in_ok-answer-in-Parts in
-    let inner = subst (λ v. RelatedForms M q p v x y (p.meaning).ty (Ok z.answer)) (step.passes).ambient z.ensures in
+    let inner = subst (λ v. RelatedForms M q p v x y (p.meaning).ty (Ok z.answer)) (step.passes).ambient z.ensures.related in
     let done : Related M r p r.ambient a b (p.meaning).ty (Ok z.answer) =
     parts_related M IsFormed (g.met.R.TypeRelation.sound c.structurally_relate_tys.new.r ((inner.passes).lawful ((step.passes).lawful c.requires.lawful)))
     a b x y (p.meaning).ty (Ok z.answer) step.passes step.verdict step.exact step.full step.built just inner in
@@ -396,7 +399,7 @@ tys-returns-in_ok-tys_done-in-Parts-clause-related g t c =
     let y = (q.meaning).ty c.in-Parts.b in
     let p = g.R.HasState.state c.structurally_relate_tys.new.r in
     let z = c.in_ok-answer-in-Parts in
-    let inner = subst (λ v. RelatedForms M q p v x y (p.meaning).ty (Ok z.answer)) (step.passes).ambient z.ensures in
+    let inner = subst (λ v. RelatedForms M q p v x y (p.meaning).ty (Ok z.answer)) (step.passes).ambient z.ensures.related in
     let done : Related M r p r.ambient a b (p.meaning).ty (Ok z.answer) =
     parts_related M IsFormed (g.met.R.TypeRelation.sound c.structurally_relate_tys.new.r ((inner.passes).lawful ((step.passes).lawful c.requires.lawful)))
     a b x y (p.meaning).ty (Ok z.answer) step.passes step.verdict step.exact step.full step.built just inner in
@@ -575,7 +578,7 @@ tys-returns-in-Done-clause-registers g t c =
     let b = (r.meaning).ty c.args.b.now in
     let q = g.R.HasState.state c.tys.new.self in
     done_registers M r q a b (q.meaning).ty c.in-Done.answer
-    (subst (λ z. StepsAlone M r q (q.meaning).ty a b (Ok z)) c.in-Done.is c.in_ok-answer.ensures.registers)
+    (subst (λ z. StepsAtOnce M r q (q.meaning).ty a b (Ok z)) c.in-Done.is c.in_ok-answer.ensures.registers)
 
 pub tys-returns-in_err-answer-clause-registers : goal.tys-returns-in_err-answer-clause-registers
 tys-returns-in_err-answer-clause-registers g t c =
@@ -597,7 +600,10 @@ tys-returns-in_err-answer-in-Parts-clause-registers g t c =
     let s = g.R.HasState.state c.structurally_relate_tys.new.r in
     parts_register M r q a b s (q.meaning).ty c.in-Parts.a c.in-Parts.b
     c.from_residual-in_err-answer-in-Parts.result
-    (subst (λ z. StepsAlone M r q (q.meaning).ty a b (Ok z)) c.in-Parts.is c.in_ok-answer.ensures.registers)
+    (subst (λ z. StepsAtOnce M r q (q.meaning).ty a b (Ok z)) c.in-Parts.is c.in_ok-answer.ensures.registers)
+    (λ promised. none_of_fault _ c.from_residual-in_err-answer-in-Parts.result c.in_err-answer-in-Parts.field-0.0
+    (as_err c.from_residual-in_err-answer-in-Parts.result c.in_err-answer-in-Parts.field-0.0
+    c.from_residual-in_err-answer-in-Parts.ensures.0 c.from_residual-in_err-answer-in-Parts.ensures.1))
 
 pub tys-returns-in_err-tys_done-in-Parts-clause-registers : goal.tys-returns-in_err-tys_done-in-Parts-clause-registers
 tys-returns-in_err-tys_done-in-Parts-clause-registers g t c =
@@ -609,7 +615,10 @@ tys-returns-in_err-tys_done-in-Parts-clause-registers g t c =
     let s = g.R.HasState.state c.tys_done.new.self in
     parts_register M r q a b s (q.meaning).ty c.in-Parts.a c.in-Parts.b
     c.from_residual-in_err-tys_done-in-Parts.result
-    (subst (λ z. StepsAlone M r q (q.meaning).ty a b (Ok z)) c.in-Parts.is c.in_ok-answer.ensures.registers)
+    (subst (λ z. StepsAtOnce M r q (q.meaning).ty a b (Ok z)) c.in-Parts.is c.in_ok-answer.ensures.registers)
+    (λ promised. none_of_fault _ c.from_residual-in_err-tys_done-in-Parts.result c.in_err-tys_done-in-Parts.field-0.0
+    (as_err c.from_residual-in_err-tys_done-in-Parts.result c.in_err-tys_done-in-Parts.field-0.0
+    c.from_residual-in_err-tys_done-in-Parts.ensures.0 c.from_residual-in_err-tys_done-in-Parts.ensures.1))
 
 pub tys-returns-in_ok-tys_done-in-Parts-clause-registers : goal.tys-returns-in_ok-tys_done-in-Parts-clause-registers
 tys-returns-in_ok-tys_done-in-Parts-clause-registers g t c =
@@ -619,9 +628,14 @@ tys-returns-in_ok-tys_done-in-Parts-clause-registers g t c =
     let b = (r.meaning).ty c.args.b.now in
     let q = g.R.HasState.state c.tys.new.self in
     let s = g.R.HasState.state c.tys_done.new.self in
+    let step = subst (λ z. Stepped M IsFormed r q a b (q.meaning).ty (Ok z)) c.in-Parts.is c.in_ok-answer.ensures.stepped in
+    let n = c.in_ok-tys_done-in-Parts.ensures in
     parts_register M r q a b s (q.meaning).ty c.in-Parts.a c.in-Parts.b
     (Ok c.in_ok-answer-in-Parts.answer)
-    (subst (λ z. StepsAlone M r q (q.meaning).ty a b (Ok z)) c.in-Parts.is c.in_ok-answer.ensures.registers)
+    (subst (λ z. StepsAtOnce M r q (q.meaning).ty a b (Ok z)) c.in-Parts.is c.in_ok-answer.ensures.registers)
+    (λ promised. asked_still r q (g.R.HasState.state c.structurally_relate_tys.new.r) s step.passes ((q.meaning).ty c.in-Parts.a) ((q.meaning).ty c.in-Parts.b) n.store
+    (n.passes).added (n.passes).lengthens (c.in_ok-answer-in-Parts.ensures.asks
+    (subst (λ k. (M k).registers_alone) (sym (same_settings (step.passes).kept)) promised)))
 
 pub tys-returns-in_err-relate_with_variance-in-Again-clause-registers : goal.tys-returns-in_err-relate_with_variance-in-Again-clause-registers
 tys-returns-in_err-relate_with_variance-in-Again-clause-registers g t c =
@@ -634,7 +648,7 @@ tys-returns-in_err-relate_with_variance-in-Again-clause-registers g t c =
     again_registers M r q a b s (q.meaning).ty c.in-Again.a c.in-Again.b c.in-Again.x c.in-Again.y
     c.in-Again.answer c.in-Again.variance
     c.from_residual-in_err-relate_with_variance-in-Again.result
-    (subst (λ z. StepsAlone M r q (q.meaning).ty a b (Ok z)) c.in-Again.is c.in_ok-answer.ensures.registers)
+    (subst (λ z. StepsAtOnce M r q (q.meaning).ty a b (Ok z)) c.in-Again.is c.in_ok-answer.ensures.registers)
 
 pub tys-returns-in_err-tys_done-in-Again-clause-registers : goal.tys-returns-in_err-tys_done-in-Again-clause-registers
 tys-returns-in_err-tys_done-in-Again-clause-registers g t c =
@@ -647,7 +661,7 @@ tys-returns-in_err-tys_done-in-Again-clause-registers g t c =
     again_registers M r q a b s (q.meaning).ty c.in-Again.a c.in-Again.b c.in-Again.x c.in-Again.y
     c.in-Again.answer c.in-Again.variance
     c.from_residual-in_err-tys_done-in-Again.result
-    (subst (λ z. StepsAlone M r q (q.meaning).ty a b (Ok z)) c.in-Again.is c.in_ok-answer.ensures.registers)
+    (subst (λ z. StepsAtOnce M r q (q.meaning).ty a b (Ok z)) c.in-Again.is c.in_ok-answer.ensures.registers)
 
 pub tys-returns-in_ok-tys_done-in-Again-clause-registers : goal.tys-returns-in_ok-tys_done-in-Again-clause-registers
 tys-returns-in_ok-tys_done-in-Again-clause-registers g t c =
@@ -660,7 +674,7 @@ tys-returns-in_ok-tys_done-in-Again-clause-registers g t c =
     again_registers M r q a b s (q.meaning).ty c.in-Again.a c.in-Again.b c.in-Again.x c.in-Again.y
     c.in-Again.answer c.in-Again.variance
     (Ok c.in-Again.answer)
-    (subst (λ z. StepsAlone M r q (q.meaning).ty a b (Ok z)) c.in-Again.is c.in_ok-answer.ensures.registers)
+    (subst (λ z. StepsAtOnce M r q (q.meaning).ty a b (Ok z)) c.in-Again.is c.in_ok-answer.ensures.registers)
 
 pub relate-returns-in_default : goal.relate-returns-in_default
 relate-returns-in_default g t c =
@@ -755,7 +769,7 @@ relate-returns-in_ok-tys-in-Ty g t c =
           (sym c.in-Ty.is) (sym c.in-Ty-b.is)
           (retold M r.ambient ((r.meaning).ty c.in-Ty.a) ((r.meaning).ty c.in-Ty-b.b) (q.meaning).ty n.field-0
           (arg_tree q.meaning) (Ty n.field-0) refl n.ensures.related);
-      registers = subst₂ (λ t u. RelatesAlone M r q r.ambient (arg_tree r.meaning t) (arg_tree r.meaning u)
+      registers = subst₂ (λ t u. RelatesAtOnce M r q r.ambient (arg_tree r.meaning t) (arg_tree r.meaning u)
           (Ok (Ty n.field-0))) (sym c.in-Ty.is) (sym c.in-Ty-b.is) n.ensures.registers;
       kind = ap arg_sort (sym c.in-Ty.is);
     }
@@ -767,7 +781,7 @@ relate-returns-in_err-tys-in-Ty-clause-registers g t c =
     let q = g.R.HasState.state c.tys.new.r in
     let n = c.in_err-tys-in-Ty in
     let res = c.from_residual-in_err-tys-in-Ty.result in
-    subst₂ (λ t u. RelatesAlone M r q r.ambient (arg_tree r.meaning t) (arg_tree r.meaning u) res)
+    subst₂ (λ t u. RelatesAtOnce M r q r.ambient (arg_tree r.meaning t) (arg_tree r.meaning u) res)
     (sym c.in-Ty.is) (sym c.in-Ty-b.is)
     (refused_told ⊥ _ M r q r.ambient ((r.meaning).ty c.in-Ty.a) ((r.meaning).ty c.in-Ty-b.b) n.field-0.0 res
     (as_err res n.field-0.0 c.from_residual-in_err-tys-in-Ty.ensures.0 c.from_residual-in_err-tys-in-Ty.ensures.1)
@@ -1192,8 +1206,8 @@ structurally_relate_consts-returns g t c =
     (ap₂ const_over same_a (ap (list_tree (arg_tree q.meaning)) c.as_slice.ensures.value)) (made.made).sure
     (made.made).means
 
-pub structurally_relate_tys-returns-then-is_error_of : goal.structurally_relate_tys-returns-then-is_error_of
-structurally_relate_tys-returns-then-is_error_of g t c =
+pub structurally_relate_tys-returns-then-is_error_of-clause-related : goal.structurally_relate_tys-returns-then-is_error_of-clause-related
+structurally_relate_tys-returns-then-is_error_of-clause-related g t c =
     let r = g.R.HasState.state c.args.r.now in
     let a = (r.meaning).ty c.args.a.now in
     let b = (r.meaning).ty c.args.b.now in
@@ -1205,8 +1219,8 @@ structurally_relate_tys-returns-then-is_error_of g t c =
     (sorted.ty c.args.a.now k.left_known) (sorted.ty c.args.b.now k.right_known) refl k.left_known
     (c.is_error_of.ensures.0 c.if-is_error_of.true)
 
-pub structurally_relate_tys-returns-then-is_error_of-2 : goal.structurally_relate_tys-returns-then-is_error_of-2
-structurally_relate_tys-returns-then-is_error_of-2 g t c =
+pub structurally_relate_tys-returns-then-is_error_of-2-clause-related : goal.structurally_relate_tys-returns-then-is_error_of-2-clause-related
+structurally_relate_tys-returns-then-is_error_of-2-clause-related g t c =
     let r = g.R.HasState.state c.args.r.now in
     let a = (r.meaning).ty c.args.a.now in
     let b = (r.meaning).ty c.args.b.now in
@@ -1224,8 +1238,8 @@ structurally_relate_tys-compare_tys_of-requires-clause-no_error g t c = (
   λ h. false≢true (sym c.if-is_error_of-2.false ∙ c.is_error_of-2.ensures.1 h),
 )
 
-pub structurally_relate_tys-returns-in_err-compare_tys_of : goal.structurally_relate_tys-returns-in_err-compare_tys_of
-structurally_relate_tys-returns-in_err-compare_tys_of g t c =
+pub structurally_relate_tys-returns-in_err-compare_tys_of-clause-related : goal.structurally_relate_tys-returns-in_err-compare_tys_of-clause-related
+structurally_relate_tys-returns-in_err-compare_tys_of-clause-related g t c =
     let r = g.R.HasState.state c.args.r.now in
     let M = g.R.TypeRelation.manner in
     let a = (r.meaning).ty c.args.a.now in
@@ -1307,8 +1321,8 @@ structurally_relate_tys-relate_with_variance-related-requires g t c κs within =
     let d = c.decreases in
     search rules
 
-pub structurally_relate_tys-returns-in_err-keep_answer : goal.structurally_relate_tys-returns-in_err-keep_answer
-structurally_relate_tys-returns-in_err-keep_answer g t c =
+pub structurally_relate_tys-returns-in_err-keep_answer-clause-related : goal.structurally_relate_tys-returns-in_err-keep_answer-clause-related
+structurally_relate_tys-returns-in_err-keep_answer-clause-related g t c =
     let r = g.R.HasState.state c.args.r.now in
     let M = g.R.TypeRelation.manner in
     let a = (r.meaning).ty c.args.a.now in
@@ -1513,8 +1527,8 @@ structurally_relate_tys-note_args-requires-clause-asked g t c =
     subst₂ (λ t u. Asked M q q.ambient t u) (sym same_a) (sym same_b)
     (subst (λ v. Asked M q v a b) (sym ((inv.fronted).passes).ambient) (asked_later M r.ambient a b (inv.fronted).passes k))
 
-pub structurally_relate_tys-returns-in_err-note_args : goal.structurally_relate_tys-returns-in_err-note_args
-structurally_relate_tys-returns-in_err-note_args g t c =
+pub structurally_relate_tys-returns-in_err-note_args-clause-related : goal.structurally_relate_tys-returns-in_err-note_args-clause-related
+structurally_relate_tys-returns-in_err-note_args-clause-related g t c =
     let r = g.R.HasState.state c.args.r.now in
     let M = g.R.TypeRelation.manner in
     let a = (r.meaning).ty c.args.a.now in
@@ -1539,12 +1553,12 @@ structurally_relate_tys-returns-in_err-note_args g t c =
     let failed = as_err c.from_residual-in_err-note_args.result n.field-0.0 c.from_residual-in_err-note_args.ensures.0
     c.from_residual-in_err-note_args.ensures.1 in
     subst (λ z. RelatedForms M r u r.ambient a b (u.meaning).ty z) (sym failed)
-    (noted_refused M r.ambient a b (q.meaning).ty c.args.a.now done (Err n.field-0.0) n.ensures (built_as r.store same_a same_b)
+    (noted_refused M r.ambient a b (q.meaning).ty c.args.a.now done (Err n.field-0.0) n.ensures.noted (built_as r.store same_a same_b)
     (u.meaning).ty n.field-0.0
     refl)
 
-pub structurally_relate_tys-returns-then-is_empty : goal.structurally_relate_tys-returns-then-is_empty
-structurally_relate_tys-returns-then-is_empty g t c =
+pub structurally_relate_tys-returns-then-is_empty-clause-related : goal.structurally_relate_tys-returns-then-is_empty-clause-related
+structurally_relate_tys-returns-then-is_empty-clause-related g t c =
     let r = g.R.HasState.state c.args.r.now in
     let M = g.R.TypeRelation.manner in
     let a = (r.meaning).ty c.args.a.now in
@@ -1566,9 +1580,9 @@ structurally_relate_tys-returns-then-is_empty g t c =
     right same_a k.left_known in
     let u = g.R.HasState.state c.note_args.new.r in
     let n = c.in_ok-note_args in
-    let noted = noted_related M r.ambient a b (q.meaning).ty c.args.a.now done (Ok n.field-0) n.ensures (built_as r.store same_a same_b)
+    let noted = noted_related M r.ambient a b (q.meaning).ty c.args.a.now done (Ok n.field-0) n.ensures.noted (built_as r.store same_a same_b)
     (u.meaning).ty
-    ((((n.ensures).passes).extends).ty c.args.a.now (subst (λ z. IsTrue (known z)) (sym same_a) k.left_known))
+    ((((n.ensures.noted).passes).extends).ty c.args.a.now (subst (λ z. IsTrue (known z)) (sym same_a) k.left_known))
     (λ promised bare. (same_a, same_b, ((inv.fronted).passes).ambient)) in
     noted
 
@@ -1596,11 +1610,11 @@ structurally_relate_tys-make_ty-requires-clause-ty_known g t c =
     right same_a k.left_known in
     let u = g.R.HasState.state c.note_args.new.r in
     let n = c.in_ok-note_args in
-    let noted = noted_related M r.ambient a b (q.meaning).ty c.args.a.now done (Ok n.field-0) n.ensures (built_as r.store same_a same_b)
+    let noted = noted_related M r.ambient a b (q.meaning).ty c.args.a.now done (Ok n.field-0) n.ensures.noted (built_as r.store same_a same_b)
     (u.meaning).ty
-    ((((n.ensures).passes).extends).ty c.args.a.now (subst (λ z. IsTrue (known z)) (sym same_a) k.left_known))
+    ((((n.ensures.noted).passes).extends).ty c.args.a.now (subst (λ z. IsTrue (known z)) (sym same_a) k.left_known))
     (λ promised bare. (same_a, same_b, ((inv.fronted).passes).ambient)) in
-    let e = ((n.ensures).passes).extends in
+    let e = ((n.ensures.noted).passes).extends in
     let stays : (u.meaning).ty c.args.a.now ≡ a =
     e.ty c.args.a.now (subst (λ z. IsTrue (known z)) (sym same_a) k.left_known) ∙ same_a in
     let items = c.loop-i.answers.items in
@@ -1633,11 +1647,11 @@ structurally_relate_tys-make_ty-requires-clause-parts_known g t c =
     right same_a k.left_known in
     let u = g.R.HasState.state c.note_args.new.r in
     let n = c.in_ok-note_args in
-    let noted = noted_related M r.ambient a b (q.meaning).ty c.args.a.now done (Ok n.field-0) n.ensures (built_as r.store same_a same_b)
+    let noted = noted_related M r.ambient a b (q.meaning).ty c.args.a.now done (Ok n.field-0) n.ensures.noted (built_as r.store same_a same_b)
     (u.meaning).ty
-    ((((n.ensures).passes).extends).ty c.args.a.now (subst (λ z. IsTrue (known z)) (sym same_a) k.left_known))
+    ((((n.ensures.noted).passes).extends).ty c.args.a.now (subst (λ z. IsTrue (known z)) (sym same_a) k.left_known))
     (λ promised bare. (same_a, same_b, ((inv.fronted).passes).ambient)) in
-    let e = ((n.ensures).passes).extends in
+    let e = ((n.ensures.noted).passes).extends in
     let stays : (u.meaning).ty c.args.a.now ≡ a =
     e.ty c.args.a.now (subst (λ z. IsTrue (known z)) (sym same_a) k.left_known) ∙ same_a in
     let items = c.loop-i.answers.items in
@@ -1671,11 +1685,11 @@ structurally_relate_tys-make_ty-requires-clause-fits g t c =
     right same_a k.left_known in
     let u = g.R.HasState.state c.note_args.new.r in
     let n = c.in_ok-note_args in
-    let noted = noted_related M r.ambient a b (q.meaning).ty c.args.a.now done (Ok n.field-0) n.ensures (built_as r.store same_a same_b)
+    let noted = noted_related M r.ambient a b (q.meaning).ty c.args.a.now done (Ok n.field-0) n.ensures.noted (built_as r.store same_a same_b)
     (u.meaning).ty
-    ((((n.ensures).passes).extends).ty c.args.a.now (subst (λ z. IsTrue (known z)) (sym same_a) k.left_known))
+    ((((n.ensures.noted).passes).extends).ty c.args.a.now (subst (λ z. IsTrue (known z)) (sym same_a) k.left_known))
     (λ promised bare. (same_a, same_b, ((inv.fronted).passes).ambient)) in
-    let e = ((n.ensures).passes).extends in
+    let e = ((n.ensures.noted).passes).extends in
     let stays : (u.meaning).ty c.args.a.now ≡ a =
     e.ty c.args.a.now (subst (λ z. IsTrue (known z)) (sym same_a) k.left_known) ∙ same_a in
     let items = c.loop-i.answers.items in
@@ -1685,8 +1699,8 @@ structurally_relate_tys-make_ty-requires-clause-fits g t c =
     subst₂ (λ xs t. FitArgs xs (direct_parts t)) (sym c.as_slice.ensures.value) (sym stays)
     (fit_end items (direct_parts a) i (inv.are_parts).left_list left ((inv.kept).fits some))
 
-pub structurally_relate_tys-returns : goal.structurally_relate_tys-returns
-structurally_relate_tys-returns g t c =
+pub structurally_relate_tys-returns-clause-related : goal.structurally_relate_tys-returns-clause-related
+structurally_relate_tys-returns-clause-related g t c =
     let r = g.R.HasState.state c.args.r.now in
     let M = g.R.TypeRelation.manner in
     let a = (r.meaning).ty c.args.a.now in
@@ -1709,11 +1723,11 @@ structurally_relate_tys-returns g t c =
     right same_a k.left_known in
     let u = g.R.HasState.state c.note_args.new.r in
     let n = c.in_ok-note_args in
-    let noted = noted_related M r.ambient a b (q.meaning).ty c.args.a.now done (Ok n.field-0) n.ensures (built_as r.store same_a same_b)
+    let noted = noted_related M r.ambient a b (q.meaning).ty c.args.a.now done (Ok n.field-0) n.ensures.noted (built_as r.store same_a same_b)
     (u.meaning).ty
-    ((((n.ensures).passes).extends).ty c.args.a.now (subst (λ z. IsTrue (known z)) (sym same_a) k.left_known))
+    ((((n.ensures.noted).passes).extends).ty c.args.a.now (subst (λ z. IsTrue (known z)) (sym same_a) k.left_known))
     (λ promised bare. (same_a, same_b, ((inv.fronted).passes).ambient)) in
-    let e = ((n.ensures).passes).extends in
+    let e = ((n.ensures.noted).passes).extends in
     let stays : (u.meaning).ty c.args.a.now ≡ a =
     e.ty c.args.a.now (subst (λ z. IsTrue (known z)) (sym same_a) k.left_known) ∙ same_a in
     let items = c.loop-i.answers.items in
@@ -1726,9 +1740,70 @@ structurally_relate_tys-returns g t c =
     (answers_end M q (head_of a) r.ambient i (direct_parts a) was (inv.are_parts).left_list left ((inv.kept).answers some)) in
     form_made M r.ambient a b (made.made).extends made.grown (p.meaning).ty (u.meaning).ty c.args.a.now noted
     c.make_ty.result made.fault (form_over a was) _
-    (may_later M r.ambient a (form_over a was) (n.ensures).passes may)
+    (may_later M r.ambient a (form_over a was) (n.ensures.noted).passes may)
     (ap₂ form_over stays (ap (list_tree (arg_tree u.meaning)) c.as_slice.ensures.value ∙ listed)) (made.made).sure
     (made.made).means
+
+pub structurally_relate_tys-returns-then-is_error_of-clause-asks : goal.structurally_relate_tys-returns-then-is_error_of-clause-asks
+structurally_relate_tys-returns-then-is_error_of-clause-asks g t c = λ promised directed d ts us over opens.
+    absurd (error_not_over over (inl (c.is_error_of.ensures.0 c.if-is_error_of.true)))
+
+pub structurally_relate_tys-returns-then-is_error_of-2-clause-asks : goal.structurally_relate_tys-returns-then-is_error_of-2-clause-asks
+structurally_relate_tys-returns-then-is_error_of-2-clause-asks g t c = λ promised directed d ts us over opens.
+    absurd (error_not_over over (inr (c.is_error_of-2.ensures.0 c.if-is_error_of-2.true)))
+
+pub structurally_relate_tys-returns-in_err-compare_tys_of-clause-asks : goal.structurally_relate_tys-returns-in_err-compare_tys_of-clause-asks
+structurally_relate_tys-returns-in_err-compare_tys_of-clause-asks g t c =
+    let n = c.in_err-compare_tys_of in
+    λ promised. none_of_fault _ c.from_residual.result (Unrelated n.field-0.0) (as_err c.from_residual.result
+    (Unrelated n.field-0.0) c.from_residual.ensures.0 c.from_residual.ensures.1)
+
+pub structurally_relate_tys-returns-in_err-keep_answer-clause-asks : goal.structurally_relate_tys-returns-in_err-keep_answer-clause-asks
+structurally_relate_tys-returns-in_err-keep_answer-clause-asks g t c =
+    let n = c.in_err-keep_answer in
+    let res = c.from_residual-in_err-keep_answer in
+    λ promised. none_of_fault _ res.result n.field-0.0 (as_err res.result n.field-0.0 res.ensures.0 res.ensures.1)
+
+pub structurally_relate_tys-returns-in_err-note_args-clause-asks : goal.structurally_relate_tys-returns-in_err-note_args-clause-asks
+structurally_relate_tys-returns-in_err-note_args-clause-asks g t c =
+    let n = c.in_err-note_args in
+    let res = c.from_residual-in_err-note_args in
+    λ promised. none_of_fault _ res.result n.field-0.0 (as_err res.result n.field-0.0 res.ensures.0 res.ensures.1)
+
+pub structurally_relate_tys-returns-in_err-relate_in_order-clause-asks : goal.structurally_relate_tys-returns-in_err-relate_in_order-clause-asks
+structurally_relate_tys-returns-in_err-relate_in_order-clause-asks g t c =
+    let n = c.in_err-relate_in_order in
+    let res = c.from_residual-in_err-relate_in_order in
+    λ promised. none_of_fault _ res.result n.field-0.0 (as_err res.result n.field-0.0 res.ensures.0 res.ensures.1)
+
+pub structurally_relate_tys-returns-then-is_empty-clause-asks : goal.structurally_relate_tys-returns-then-is_empty-clause-asks
+structurally_relate_tys-returns-then-is_empty-clause-asks g t c =
+    let M = g.R.TypeRelation.manner in
+    let k = c.requires.asked in
+    let r = g.R.HasState.state c.args.r.now in
+    let q = g.R.HasState.state c.loop-i.r in
+    let u = g.R.HasState.state c.note_args.new.r in
+    let passes = (c.loop-i.invariant.fronted).passes in
+    λ promised. asked_then M r q u u passes c.args.a.now c.args.b.now k.left_known k.right_known refl [] (sym (append-nil u.goals))
+    promised c.in_ok-note_args.ensures.asks
+
+pub structurally_relate_tys-returns-clause-asks : goal.structurally_relate_tys-returns-clause-asks
+structurally_relate_tys-returns-clause-asks g t c =
+    let M = g.R.TypeRelation.manner in
+    let k = c.requires.asked in
+    let r = g.R.HasState.state c.args.r.now in
+    let q = g.R.HasState.state c.loop-i.r in
+    let u = g.R.HasState.state c.note_args.new.r in
+    let p = g.R.HasState.state c.make_ty.new.r in
+    let passes = (c.loop-i.invariant.fronted).passes in
+    let made = c.make_ty.ensures in
+    λ promised. if_ok_anyhow c.make_ty.result (asked_then M r q u p passes c.args.a.now c.args.b.now k.left_known
+    k.right_known (made.grown).store [] ((made.grown).goals ∙ sym (append-nil u.goals)) promised
+    c.in_ok-note_args.ensures.asks)
+
+pub structurally_relate_tys-returns-then-is_by_parts_of-clause-asks : goal.structurally_relate_tys-returns-then-is_by_parts_of-clause-asks
+structurally_relate_tys-returns-then-is_by_parts_of-clause-asks g t c = λ promised directed d ts us over opens.
+    absurd (by_parts_not_over over ((c.is_by_parts_of.ensures).0 c.if-is_by_parts_of.true))
 
 pub relate_in_order-loop-i-init : goal.relate_in_order-loop-i-init
 relate_in_order-loop-i-init g t c =
@@ -2804,8 +2879,8 @@ structurally_relate_tys-relate_in_order-requires g t c κs within =
 pub structurally_relate_tys-the_ty-requires : goal.structurally_relate_tys-the_ty-requires
 structurally_relate_tys-the_ty-requires g t c = (c.in_ok-relate_in_order.ensures).sort
 
-pub structurally_relate_tys-returns-in_err-relate_in_order : goal.structurally_relate_tys-returns-in_err-relate_in_order
-structurally_relate_tys-returns-in_err-relate_in_order g t c =
+pub structurally_relate_tys-returns-in_err-relate_in_order-clause-related : goal.structurally_relate_tys-returns-in_err-relate_in_order-clause-related
+structurally_relate_tys-returns-in_err-relate_in_order-clause-related g t c =
     let r = g.R.HasState.state c.args.r.now in
     let M = g.R.TypeRelation.manner in
     let a = (r.meaning).ty c.args.a.now in
@@ -2818,8 +2893,8 @@ structurally_relate_tys-returns-in_err-relate_in_order g t c =
     subst (λ z. RelatedForms M r q r.ambient a b (q.meaning).ty z) (sym failed)
     (refused_again M r.ambient a b (part_tree q.meaning) (q.meaning).ty n.field-0.0 (n.ensures).related)
 
-pub structurally_relate_tys-returns-then-is_by_parts_of : goal.structurally_relate_tys-returns-then-is_by_parts_of
-structurally_relate_tys-returns-then-is_by_parts_of g t c =
+pub structurally_relate_tys-returns-then-is_by_parts_of-clause-related : goal.structurally_relate_tys-returns-then-is_by_parts_of-clause-related
+structurally_relate_tys-returns-then-is_by_parts_of-clause-related g t c =
     let r = g.R.HasState.state c.args.r.now in
     let M = g.R.TypeRelation.manner in
     let a = (r.meaning).ty c.args.a.now in

@@ -12,9 +12,9 @@ use Rattle.context_relation.proofs.Solving.{held_kept, answered_step}
 use Rattle.relation_steps.proofs.Sorted.{one_ty}
 use Rattle.relation_semantics.specs.declared.relate.Step.TheVariants.{Done}
 use Rattle.relation_recursion.proofs.Alone.{step_of_one}
-use Rattle.context_relation.proofs.StepsAlone.{steps_alone}
+use Rattle.context_relation.proofs.StepsAlone.{steps_at_once, unless_variables}
 use Rattle.context_relation.specs.Stepping.{one_type, without_variables, resolved_first}
-use Rattle.context_relation.proofs.Recalling.{read_told, unless_variables}
+use Rattle.context_relation.proofs.Recalling.{read_told}
 use Rattle.context_relation.proofs.Stepping.{leaves_itself}
 use Rattle.context_relation.proofs.relation.SolverRelating.step_tys.Goals as goal
 
@@ -122,10 +122,10 @@ returns-then-have_no_variable-clause-alone g c =
     let b_formed = none.b_formed c.if-have_no_variable.true (term_within s.store _ k.right_in) in
     let q = c.step_read.new.self in
     let d = g.Infcx.InferCtxtLike.state q.infcx.now in
-    steps_alone (solving_through r.structurally_relate_aliases r.infcx.ghost_name r.cache.pairs.kept r.goals.items s r.ambient_variance r.param_env)
+    steps_at_once (solving_through r.structurally_relate_aliases r.infcx.ghost_name r.cache.pairs.kept r.goals.items s r.ambient_variance r.param_env)
     (solving_through q.structurally_relate_aliases q.infcx.ghost_name q.cache.pairs.kept q.goals.items d q.ambient_variance q.param_env)
     solver_manner a b c.step_read.result c.requires.lawful.0.1 c.step_read.ensures.stepped.passes.extends
-    k.left_known (λ e. (a_formed, b_formed)) (without_variables (λ e. false≢true (c.if-eq.ensures ∙ (g.met.Infcx.Interner.Interner.same_ty cx a b
+    k.left_known k.right_known (λ e. (a_formed, b_formed)) (without_variables (λ e. false≢true (c.if-eq.ensures ∙ (g.met.Infcx.Interner.Interner.same_ty cx a b
     (subst (λ z. IsTrue (known (z.ty a))) of k.left_known)
     (subst (λ z. IsTrue (known (z.ty b))) of k.right_known)).1 (subst (λ z. z.ty a ≡ z.ty b) of e)))
     (none.none c.if-have_no_variable.true) (read_told
@@ -164,10 +164,10 @@ returns-clause-alone g c =
     let q = c.step_read-2.new.self in
     let d = g.Infcx.InferCtxtLike.state q.infcx.now in
     let one = c.have_no_variable.ensures.one c.if-have_no_variable.false in
-    steps_alone (solving_through r.structurally_relate_aliases r.infcx.ghost_name r.cache.pairs.kept r.goals.items s r.ambient_variance r.param_env)
+    steps_at_once (solving_through r.structurally_relate_aliases r.infcx.ghost_name r.cache.pairs.kept r.goals.items s r.ambient_variance r.param_env)
     (solving_through q.structurally_relate_aliases q.infcx.ghost_name q.cache.pairs.kept q.goals.items d q.ambient_variance q.param_env)
     solver_manner a b c.step_read-2.result c.requires.lawful.0.1 c.step_read-2.ensures.stepped.passes.extends k.left_known
-    (λ e. absurd (false≢true (sym e ∙ one))) (resolved_first c.shallow_resolve-left.result c.shallow_resolve-right.result
+    k.right_known (λ e. absurd (false≢true (sym e ∙ one))) (resolved_first c.shallow_resolve-left.result c.shallow_resolve-right.result
     (λ e. false≢true (c.if-eq.ensures ∙ (g.met.Infcx.Interner.Interner.same_ty cx a b
     (subst (λ z. IsTrue (known (z.ty a))) of k.left_known)
     (subst (λ z. IsTrue (known (z.ty b))) of k.right_known)).1 (subst (λ z. z.ty a ≡ z.ty b) of e)))

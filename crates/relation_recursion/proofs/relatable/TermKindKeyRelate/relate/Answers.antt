@@ -9,7 +9,7 @@ use Rattle.relation_folds.specs.declared.error.RelateFault.TheVariants.{Unrelate
 use Rattle.relation_semantics.specs.Lawful.{Asked, Related}
 use Rattle.relation_semantics.specs.Relation.{sort_of}
 use Rattle.relation_terms.specs.Heads.{type_sort}
-use Rattle.relation_steps.specs.Alone.{RelatesAlone}
+use Rattle.relation_steps.specs.Alone.{RelatesAtOnce}
 use Rattle.relation_semantics.proofs.Passing.{retold, refused_again, as_err}
 use Rattle.relation_recursion.proofs.Alone.{left_none, right_none, const_none, refused_told}
 use Rattle.relation_recursion.proofs.StructuralConsts.{kinds_differ}
@@ -125,7 +125,7 @@ returns-in_ok-tys-in-Ty-clause-registers g c =
     let M = g.R.TypeRelation.manner in
     let q = g.R.HasState.state c.tys.new.r in
     let n = c.in_ok-tys-in-Ty in
-    subst₂ (λ t u. RelatesAlone M r q r.ambient (term_tree r.meaning t) (term_tree r.meaning u)
+    subst₂ (λ t u. RelatesAtOnce M r q r.ambient (term_tree r.meaning t) (term_tree r.meaning u)
     (Ok (Ty n.field-0))) (sym c.in-Ty.is) (sym c.in-Ty-b.is) n.ensures.registers
 
 pub returns-in_err-tys-in-Ty-clause-registers : goal.returns-in_err-tys-in-Ty-clause-registers
@@ -135,7 +135,7 @@ returns-in_err-tys-in-Ty-clause-registers g c =
     let q = g.R.HasState.state c.tys.new.r in
     let n = c.in_err-tys-in-Ty in
     let res = c.from_residual.result in
-    subst₂ (λ t u. RelatesAlone M r q r.ambient (term_tree r.meaning t) (term_tree r.meaning u) res)
+    subst₂ (λ t u. RelatesAtOnce M r q r.ambient (term_tree r.meaning t) (term_tree r.meaning u) res)
     (sym c.in-Ty.is) (sym c.in-Ty-b.is)
     (refused_told ⊥ _ M r q r.ambient ((r.meaning).ty c.in-Ty.a) ((r.meaning).ty c.in-Ty-b.b) n.field-0.0 res
     (as_err res n.field-0.0 c.from_residual.ensures.0 c.from_residual.ensures.1) n.ensures.registers)

@@ -16,9 +16,9 @@ use Rattle.relation_semantics.proofs.Passing.{as_err}
 use Rattle.relation_combining.proofs.Exactly.{unrelated_apart}
 use Rattle.context_relation.proofs.Spending.{spends_no_more, spent_as}
 use Rattle.context_relation.specs.Relating.{term_in}
-use Rattle.relation_steps.specs.Alone.{RelatesAlone}
+use Rattle.relation_steps.specs.Alone.{RelatesAtOnce}
 use Rattle.relation_recursion.proofs.RelatableValues.{equal_one, one_equal}
-use Rattle.context_relation.proofs.Relating.{answered_alone_in, refused_alone_in, refused_built}
+use Rattle.context_relation.proofs.Relating.{answered_alone_in, refused_alone_in, answered_taints, refused_taints, answered_open, refused_open, refused_built}
 use Rattle.relation_semantics.specs.Alphabets.{StaysBuilt, NeedsVariable}
 use Rattle.relation_semantics.proofs.Building.{built_itself}
 use Rattle.relation_combining.proofs.OverContext.{all_taken}
@@ -145,6 +145,22 @@ returns-then-eq-clause-alone g c =
     k.lhs_known k.rhs_known (sym c.if-eq.ensures) in
     λ differ s t x y p i j asks. absurd (differ one)
 
+pub returns-then-eq-clause-taints : goal.returns-then-eq-clause-taints
+returns-then-eq-clause-taints g c =
+    let k = c.requires.can in
+    let one = equal_one (g.met.Infcx.InferCtxtLike.reads c.args.infcx.now) g.T.Relate.over g.T.HasTree.tree
+    g.T.PartialEq.eq (g.met.T.Relate.same (g.Infcx.InferCtxtLike.interner c.args.infcx.now)) c.args.lhs c.args.rhs
+    k.lhs_known k.rhs_known (sym c.if-eq.ensures) in
+    λ differ s t x y i j n m o. absurd (differ one)
+
+pub returns-then-eq-clause-asks_open : goal.returns-then-eq-clause-asks_open
+returns-then-eq-clause-asks_open g c =
+    let k = c.requires.can in
+    let one = equal_one (g.met.Infcx.InferCtxtLike.reads c.args.infcx.now) g.T.Relate.over g.T.HasTree.tree
+    g.T.PartialEq.eq (g.met.T.Relate.same (g.Infcx.InferCtxtLike.interner c.args.infcx.now)) c.args.lhs c.args.rhs
+    k.lhs_known k.rhs_known (sym c.if-eq.ensures) in
+    λ differ s t x y i j. absurd (differ one)
+
 -- Of two that were refused the fault is handed on.
 pub returns-in_err-related-clause-both : goal.returns-in_err-related-clause-both
 returns-in_err-related-clause-both g c =
@@ -252,10 +268,29 @@ returns-in_err-related-clause-alone g c =
     refused_alone_in c.args.aliases ⊥ g.Infcx.InferCtxtLike.state c.args.infcx.now c.relate_in-related.new.infcx g.T.Relate.over
     g.T.HasTree.tree c.args.param_env c.args.variance c.args.lhs c.args.rhs c.relate_in-related.result.1.items
     f c.from_residual.result (as_err c.from_residual.result f c.from_residual.ensures.0 c.from_residual.ensures.1)
-    (subst (RelatesAlone solver_manner (solving_in c.args.aliases [] s c.args.variance c.args.param_env)
+    (subst (RelatesAtOnce solver_manner (solving_in c.args.aliases [] s c.args.variance c.args.param_env)
     (solving_in c.args.aliases c.relate_in-related.result.1.items (g.Infcx.InferCtxtLike.state c.relate_in-related.new.infcx)
     c.args.variance c.args.param_env) c.args.variance (term_in s g.T.Relate.over g.T.HasTree.tree c.args.lhs)
     (term_in s g.T.Relate.over g.T.HasTree.tree c.args.rhs)) c.in_err-related.was c.relate_in-related.ensures.registers)
+
+pub returns-in_err-related-clause-taints : goal.returns-in_err-related-clause-taints
+returns-in_err-related-clause-taints g c =
+    let s = g.Infcx.InferCtxtLike.state c.args.infcx.now in
+    let f = c.in_err-related.field-0.0 in
+    refused_taints c.args.aliases g.Infcx.InferCtxtLike.state c.args.infcx.now c.relate_in-related.new.infcx g.T.Relate.over
+    g.T.HasTree.tree c.args.param_env c.args.variance c.args.lhs c.args.rhs c.relate_in-related.result.1.items
+    f c.from_residual.result (as_err c.from_residual.result f c.from_residual.ensures.0 c.from_residual.ensures.1)
+    (subst (RelatesAtOnce solver_manner (solving_in c.args.aliases [] s c.args.variance c.args.param_env)
+    (solving_in c.args.aliases c.relate_in-related.result.1.items (g.Infcx.InferCtxtLike.state c.relate_in-related.new.infcx)
+    c.args.variance c.args.param_env) c.args.variance (term_in s g.T.Relate.over g.T.HasTree.tree c.args.lhs)
+    (term_in s g.T.Relate.over g.T.HasTree.tree c.args.rhs)) c.in_err-related.was c.relate_in-related.ensures.registers)
+
+pub returns-in_err-related-clause-asks_open : goal.returns-in_err-related-clause-asks_open
+returns-in_err-related-clause-asks_open g c =
+    let f = c.in_err-related.field-0.0 in
+    refused_open g.Infcx.InferCtxtLike.state c.args.infcx.now c.relate_in-related.new.infcx g.T.Relate.over
+    g.T.HasTree.tree c.args.param_env c.args.variance c.args.lhs c.args.rhs f c.from_residual.result
+    (as_err c.from_residual.result f c.from_residual.ensures.0 c.from_residual.ensures.1)
 
 pub returns-in_err-related-clause-needs : goal.returns-in_err-related-clause-needs
 returns-in_err-related-clause-needs g c =
@@ -387,7 +422,29 @@ returns-clause-alone g c =
     answered_alone_in c.args.aliases g.Infcx.InferCtxtLike.state c.args.infcx.now c.relate_in-related.new.infcx
     g.T.Relate.over g.T.HasTree.tree c.args.param_env c.args.variance c.args.lhs c.args.rhs c.relate_in-related.result.1
     c.in_ok-related.field-0
-    (subst (RelatesAlone solver_manner (solving_in c.args.aliases [] s c.args.variance c.args.param_env)
+    (subst (RelatesAtOnce solver_manner (solving_in c.args.aliases [] s c.args.variance c.args.param_env)
+    (solving_in c.args.aliases c.relate_in-related.result.1.items (g.Infcx.InferCtxtLike.state c.relate_in-related.new.infcx)
+    c.args.variance c.args.param_env) c.args.variance (term_in s g.T.Relate.over g.T.HasTree.tree c.args.lhs)
+    (term_in s g.T.Relate.over g.T.HasTree.tree c.args.rhs)) c.in_ok-related.was c.relate_in-related.ensures.registers)
+
+pub returns-clause-taints : goal.returns-clause-taints
+returns-clause-taints g c =
+    let s = g.Infcx.InferCtxtLike.state c.args.infcx.now in
+    answered_taints c.args.aliases g.Infcx.InferCtxtLike.state c.args.infcx.now c.relate_in-related.new.infcx
+    g.T.Relate.over g.T.HasTree.tree c.args.param_env c.args.variance c.args.lhs c.args.rhs c.relate_in-related.result.1
+    c.in_ok-related.field-0
+    (subst (RelatesAtOnce solver_manner (solving_in c.args.aliases [] s c.args.variance c.args.param_env)
+    (solving_in c.args.aliases c.relate_in-related.result.1.items (g.Infcx.InferCtxtLike.state c.relate_in-related.new.infcx)
+    c.args.variance c.args.param_env) c.args.variance (term_in s g.T.Relate.over g.T.HasTree.tree c.args.lhs)
+    (term_in s g.T.Relate.over g.T.HasTree.tree c.args.rhs)) c.in_ok-related.was c.relate_in-related.ensures.registers)
+
+pub returns-clause-asks_open : goal.returns-clause-asks_open
+returns-clause-asks_open g c =
+    let s = g.Infcx.InferCtxtLike.state c.args.infcx.now in
+    answered_open c.args.aliases g.Infcx.InferCtxtLike.state c.args.infcx.now c.relate_in-related.new.infcx
+    g.T.Relate.over g.T.HasTree.tree c.args.param_env c.args.variance c.args.lhs c.args.rhs c.relate_in-related.result.1
+    c.in_ok-related.field-0
+    (subst (RelatesAtOnce solver_manner (solving_in c.args.aliases [] s c.args.variance c.args.param_env)
     (solving_in c.args.aliases c.relate_in-related.result.1.items (g.Infcx.InferCtxtLike.state c.relate_in-related.new.infcx)
     c.args.variance c.args.param_env) c.args.variance (term_in s g.T.Relate.over g.T.HasTree.tree c.args.lhs)
     (term_in s g.T.Relate.over g.T.HasTree.tree c.args.rhs)) c.in_ok-related.was c.relate_in-related.ensures.registers)

@@ -4,7 +4,7 @@ use Rattle.relation_semantics.specs.Goals.{KnowsGoal}
 use Rattle.relation_semantics.specs.Lawful.{State, Related}
 use Rattle.context_relation.specs.Relating.{term_in}
 use Rattle.relation_combining.specs.Solving.{held_by, solving_in, solving_through, solver_manner}
-use Rattle.relation_steps.specs.Alone.{RelatesAlone}
+use Rattle.relation_steps.specs.Alone.{RelatesAtOnce}
 use Rattle.relation_steps.specs.Terms.{AskedTerms, RelatedTerms, TermsRegister}
 use Rattle.context_relation.proofs.NewRelation.{stands_new, stands_after}
 use Rattle.context_relation.proofs.Solving.{forgetting, none_held}
@@ -81,6 +81,6 @@ returns-clause-registers g c =
     let registers = subst₂ (λ p u. TermsRegister solver_manner over tree p u c.args.a.now c.args.b.now c.relate-related.result)
     (stands_new state c.new-relation.result h.aliases h.infcx h.ambient_variance h.param_env h.remembers_none h.goals)
     (stands_after state c.new-relation.result h.aliases h.infcx h.ambient_variance h.param_env new) c.relate-related.ensures.registers in
-    subst₂ (λ z gs. RelatesAlone solver_manner (solving_in c.args.aliases [] s v e)
+    subst₂ (λ z gs. RelatesAtOnce solver_manner (solving_in c.args.aliases [] s v e)
     (solving_in c.args.aliases gs (state z) v e) v a b c.relate-related.result) (sym back)
     (sym c.take_goals-goals.ensures.goals) registers

@@ -1,9 +1,15 @@
-use Rattle.std.proofs.Common.{◌≡◌, sym, subst, subst₂, refl, Some, None, Ok, Err}
+use Rattle.std.proofs.Common.{◌≡◌, sym, subst, subst₂, refl, Option, List, Some, None, Ok, Err, IsTrue}
+use Rattle.std.proofs.lemmas.Bool.{false≢true}
+use Rattle.relation_terms.specs.Heads.{BoundKind, type_sort}
+use Rattle.relation_terms.specs.Meaning.{under}
+use Rattle.relation_terms.specs.Trees.{Tree, known}
 use Rattle.relation_terms.proofs.Stays.{extends_on}
 use Rattle.relation_semantics.specs.Binders.{binder_tree}
 use Rattle.relation_semantics.specs.Lawful.{Related}
+use Rattle.relation_semantics.specs.Relation.{sort_of}
 use Rattle.relation_steps.specs.Rounds.{Opened}
 use Rattle.relation_semantics.proofs.Passing.{as_err}
+use Rattle.relation_recursion.proofs.Alone.{left_none}
 use Rattle.relation_recursion.proofs.RelatableForms.{equal_binders, stays_binder, still_asked, related_bodies}
 use Rattle.relation_recursion.proofs.Rounds.{under_known, opening_refused, first_refused, first_done, reopening_refused, nothing_left}
 use Rattle.relation_recursion.proofs.Rounds.{second_refused, second_related}
@@ -276,3 +282,25 @@ returns-clause-related g c =
     second_related M a b s u never k half again.passes again.verdict again.built (tree z.meaning) m.field-0
     (binder_tree tree z.meaning) c.args.a.now
     (stays_binder tree g.T.HasTree.stays stays c.args.a.now k.left_known) last
+
+-- A binder is no type.
+under_none : (vars : Option (List BoundKind)) (t : Tree) → IsTrue (known (under vars t)) →
+    sort_of (under vars t) ≡ type_sort → ⊥
+under_none (Some ks) t k s = cc
+under_none None t k s = absurd (false≢true k)
+
+pub returns-in_default-2-clause-registers : goal.returns-in_default-2-clause-registers
+returns-in_default-2-clause-registers g c =
+    let r = g.R.HasState.state c.args.r.now in
+    let tree = g.T.HasTree.tree in
+    left_none g.R.TypeRelation.manner r (g.R.HasState.state c.open_binders-2.new.self) (binder_tree tree r.meaning c.args.a.now)
+    (binder_tree tree r.meaning c.args.b.now) r.ambient (Ok c.args.a.now)
+    (under_none ((r.meaning).bound_vars c.args.a.now.bound_vars) (tree r.meaning c.args.a.now.value) c.requires.asked.left_known)
+
+pub returns-clause-registers : goal.returns-clause-registers
+returns-clause-registers g c =
+    let r = g.R.HasState.state c.args.r.now in
+    let tree = g.T.HasTree.tree in
+    left_none g.R.TypeRelation.manner r (g.R.HasState.state c.relate-2.new.r) (binder_tree tree r.meaning c.args.a.now)
+    (binder_tree tree r.meaning c.args.b.now) r.ambient (Ok c.args.a.now)
+    (under_none ((r.meaning).bound_vars c.args.a.now.bound_vars) (tree r.meaning c.args.a.now.value) c.requires.asked.left_known)

@@ -1,6 +1,6 @@
 -- Bivariant arguments that are left open, and what is registered of types with such arguments.
-use Rattle.std.specs.Prelude.{◌≡◌, ◌⊎◌, ℕ, ◌<◌, Bool, List, [], ◌∷◌, ◌++◌, IsTrue, Result, IfOk, ◌↔◌}
-use Rattle.term_enums.specs.declared.Variance.TheVariants.{Bivariant}
+use Rattle.std.specs.Prelude.{◌≡◌, ◌≢◌, ◌⊎◌, ℕ, ◌<◌, Bool, List, [], ◌∷◌, ◌++◌, Contains, IsTrue, Result, IfOk, ◌↔◌}
+use Rattle.term_enums.specs.declared.Variance.TheVariants.{Invariant, Bivariant}
 use Rattle.relation_terms.specs.Flags.{has_non_region_infer}
 use Rattle.relation_terms.specs.Trees.{Tree, apply, count, nth}
 use Rattle.relation_terms.specs.declared.terms.ids.DefId.{DefId}
@@ -54,3 +54,11 @@ abbrev pub AsksOfOver : {Key Id Name A F : Type 0} → State Key Id Name → Sta
 AsksOfOver r q a b result = let m = r.meaning in IfOk result (λ _. (d : ℕ) (ts us : Tree) →
     AreOverItem d (m.ty a) (m.ty b) ts us →
     RegistersWellFormed (items_in r) r.store r.kept.environment d (m.ty a) (m.ty b) ts us r.goals q.goals)
+
+-- Of two types over an item that were related at covariance or contravariance, that each is well formed stands among the
+-- goals, where an argument of either list is left open by what is recorded then.
+abbrev pub HasAskedOpen : {Key Id Name : Type 0} → State Key Id Name → State Key Id Name → Tree → Tree → Type 0
+HasAskedOpen r q a b = r.ambient ≢ Invariant → (d : ℕ) (ts us : Tree) → AreOverItem d a b ts us →
+    HasOpenArgument (items_in r) q.store d ts ⊎ HasOpenArgument (items_in r) q.store d us →
+    Contains q.goals (goal_of r.kept.environment (well_formed_predicate a)) ×
+    Contains q.goals (goal_of r.kept.environment (well_formed_predicate b))
