@@ -24,6 +24,7 @@ use Rattle.relation_combining.specs.ClosedTerms.{IsClosed}
 use Rattle.context_relation.specs.Relating.{term_in, answered_goals}
 use Rattle.relation_semantics.specs.Lawful.{State, Manners, Related}
 use Rattle.relation_combining.proofs.ClosedTerms.{closed_alphabet, all_heads, closed_built, lacking_built, closed_binds, none_registered, never_needs}
+use Rattle.relation_combining.proofs.ClosedTerms.{bare_alphabet, bare_built, bare_binds}
 
 -- The same fault, of whatever was to be answered.
 pub needs_as : {X Key Id Name : Type 0} (P : Type 0) (res : Result X (RelateFault Key Id Name))
@@ -60,6 +61,8 @@ module _ {S Key Id Name A : Type 0} (state : S → Context Key Id Name) (old new
     (built (closed_alphabet all_heads) (closed_built (term_in (state old) over tree a) p)
         (closed_built (term_in (state old) over tree b) q) (closed_binds all_heads (state old).store sound)).writes refl,
     never_spent p q result needs,
+    λ ha hb. (built bare_alphabet (bare_built (term_in (state old) over tree a) p ha)
+        (bare_built (term_in (state old) over tree b) q hb) (bare_binds (state old).store sound)).makes_none refl refl,
   )
 
 pub none_keyed : {Key Id Name : Type 0} (m : Meaning Key Id Name) (gs : List (KeyedGoal Key (PredicateKey Key))) →

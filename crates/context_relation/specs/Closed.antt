@@ -3,7 +3,7 @@ use Rattle.std.specs.Prelude.{◌≡◌, [], Option, Result, IfOk}
 use Rattle.std.specs.Global.{Vec}
 use Rattle.relation_terms.specs.declared.terms.goal.Goal.{Goal}
 use Rattle.relation_terms.specs.declared.terms.keys.PredicateKey.{PredicateKey}
-use Rattle.relation_terms.specs.Heads.{Head, variable}
+use Rattle.relation_terms.specs.Heads.{Head, region_var, variable}
 use Rattle.relation_terms.specs.Trees.{Tree}
 use Rattle.relation_terms.specs.Meaning.{Meaning}
 use Rattle.relation_folds.specs.declared.error.RelateFault.{RelateFault}
@@ -11,6 +11,7 @@ use Rattle.relation_folds.specs.Faults.{IfSpent}
 use Rattle.relation_semantics.specs.Asking.{HasNoAlias}
 use Rattle.relation_semantics.specs.Contexts.{Context}
 use Rattle.relation_semantics.specs.Alphabets.{WritesNothing, NeedsVariable}
+use Rattle.relation_semantics.specs.Steps.{HasNoBinder}
 use Rattle.context_relation.specs.Relating.{term_in}
 use Rattle.relation_combining.specs.ClosedTerms.{IsClosed}
 
@@ -20,11 +21,12 @@ module _ {S Key Id Name A : Type 0} (state : S → Context Key Id Name) (old new
   abbrev term : A → Tree
   term x = term_in (state old) over tree x
 
-  -- Nothing is bound and spent, and no variable is made but of regions, where two closed terms are related; nor does it
-  -- fail for want of instantiations.
+  -- Nothing is bound and spent, and no variable is made but of regions, where two closed terms are related, nor one of
+  -- regions where these have no binder; nor does it fail for want of instantiations.
   abbrev pub LeavesClosed : {X : Type 0} → A → A → Result X (RelateFault Key Id Name) → Type 0
   LeavesClosed a b result = IsClosed (term a) → IsClosed (term b) →
-      WritesNothing (state old).store (state new).store × IfSpent result ⊥
+      WritesNothing (state old).store (state new).store × IfSpent result ⊥ × (HasNoBinder (term a) →
+      HasNoBinder (term b) → ((state new).store).entries region_var ≡ ((state old).store).entries region_var)
 
   -- No goal is answered of two closed terms in which no alias stands.
   abbrev pub AsksNothing : A → A → Result (Vec (Goal Key (PredicateKey Key))) (RelateFault Key Id Name) → Type 0

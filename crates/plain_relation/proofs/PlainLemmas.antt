@@ -200,7 +200,7 @@ module _ {Key Id Name : Type 0} (m : Meaning Key Id Name) where
       );
       full = λ ha hb. full_by (goes v cs c of_store 0) (λ k. refl) (λ all. all);
       built = λ k ha hb all. builds_none k (plain_store m cs) (plain_store m (cs ++ c ∷ [])) all refl refl
-          (λ o. record { entries = λ j i. refl; budget = refl });
+          (λ o. record { entries = λ j i. refl; budget = refl }) (λ o b. refl);
       records = λ promised bare. records_constraint (constraint_of m c) (stays_same m)
           (map-append (constraint_of m) cs (c ∷ [])) refl refl refl refl
           (of_regions (constraint_of m c) refl left_sort right_sort (region_asked m v a b c is))

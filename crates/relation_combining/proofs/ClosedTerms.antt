@@ -13,6 +13,7 @@ use Rattle.relation_semantics.specs.Alphabets.{Alphabet, IsBuiltOf, BindsBuiltOf
 use Rattle.relation_semantics.specs.Alphabets.{NeedsVariable}
 use Rattle.relation_semantics.specs.Relation.{Items, IsAlias, IsAliasHead}
 use Rattle.relation_semantics.specs.Settings.{Settings}
+use Rattle.relation_semantics.specs.Steps.{HasNoBinder}
 use Rattle.relation_semantics.specs.Stores.{Store, IsSound}
 use Rattle.relation_semantics.proofs.Building.{region_kind_is}
 use Rattle.relation_semantics.proofs.Registered.{no_aliases}
@@ -65,6 +66,28 @@ closed_binds heads st sound type_var may n t e = absurd (false≢true (may (λ d
 closed_binds heads st sound int_var may n t e = absurd (false≢true (may (λ d. cc)))
 closed_binds heads st sound float_var may n t e = absurd (false≢true (may (λ d. cc)))
 closed_binds heads st sound const_var may n t e = absurd (false≢true (may (λ d. cc)))
+
+-- What closed terms without binders are built of: each form and atom, and no binder.
+abbrev pub bare_alphabet : Alphabet
+bare_alphabet = record { heads = all_heads; atoms = λ x. true; binders = false; variables = false }
+
+pub bare_built : (t : Tree) → IsClosed t → HasNoBinder t → IsBuiltOf bare_alphabet t
+bare_built (leaf (variable k n)) h o = λ e. absurd (e h)
+bare_built (leaf (bound k d i)) h o = tt
+bare_built (leaf (placeholder k u n)) h o = tt
+bare_built (leaf (atom x)) h o = refl
+bare_built (leaf unknown) h o = tt
+bare_built (node f ts) h o = (refl, bare_built ts h o)
+bare_built (bind ks t) h o = absurd o
+bare_built nil h o = tt
+bare_built (cons t u) h o = (bare_built t h.0 o.0, bare_built u h.1 o.1)
+
+pub bare_binds : (st : Store) → IsSound st → BindsBuiltOf bare_alphabet st
+bare_binds st sound region_var may n t e = let free = sound.regions_unbound n in absurd (cc (free, e))
+bare_binds st sound type_var may n t e = absurd (false≢true (may (λ d. cc)))
+bare_binds st sound int_var may n t e = absurd (false≢true (may (λ d. cc)))
+bare_binds st sound float_var may n t e = absurd (false≢true (may (λ d. cc)))
+bare_binds st sound const_var may n t e = absurd (false≢true (may (λ d. cc)))
 
 -- Nothing that relating registers is built so.
 not_registered : {c : Items} {k : Settings} {v : Variance} {before after : Store} (p : Tree) →

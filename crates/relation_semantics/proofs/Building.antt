@@ -244,19 +244,25 @@ pub writes_then : {r q p : Store} → WritesNothing r q → WritesNothing q p �
 writes_then f g = record { entries = λ j o. g.entries j o ∙ f.entries j o; budget = g.budget ∙ f.budget }
 
 -- So it is where a alphabet has variables: nothing is said of that.
+pub varies : {P : Type 0} (k : Alphabet) → IsTrue k.variables → k.variables ≡ false → P
+varies k has none = absurd (false≢true (sym none ∙ has))
+
 pub has_variables : (k : Alphabet) (before after : Store) → IsTrue k.variables → k.variables ≡ false →
     WritesNothing before after
-has_variables k before after has none = absurd (false≢true (sym none ∙ has))
+has_variables k before after has none = varies k has none
 
 -- Nothing was bound and registered, and no universe made.
 pub builds_none : (k : Alphabet) (before after : Store) → BindsBuiltOf k after → after.universe ≡ before.universe →
-    after.tainted ≡ before.tainted → (k.variables ≡ false → WritesNothing before after) → Builds k before after []
-builds_none k before after all same taint writes = record {
+    after.tainted ≡ before.tainted → (k.variables ≡ false → WritesNothing before after) →
+    (k.variables ≡ false → k.binders ≡ false → after.entries region_var ≡ before.entries region_var) →
+    Builds k before after []
+builds_none k before after all same taint writes regions = record {
   binds = all;
   asks = All-nil (IsGoalOf k);
   universe = λ o. same;
   taint = λ n h. sym taint ∙ h;
   writes = writes;
+  makes_none = regions;
 }
 
 -- Nothing was bound, and a universe may have been made, where the alphabet has binders.
@@ -268,6 +274,7 @@ builds_opened k before after has all taint writes = record {
   universe = λ o. absurd (false≢true (sym o ∙ has));
   taint = λ n h. sym taint ∙ h;
   writes = writes;
+  makes_none = λ o b. absurd (false≢true (sym b ∙ has));
 }
 
 -- An error was met, and nothing else done.
@@ -279,10 +286,11 @@ builds_tainted k {before} {after} t has all = record {
   universe = λ o. t.same_universe;
   taint = λ n h. absurd (has n);
   writes = λ o. record { entries = λ j i. (t.nothing_else).same_entries j; budget = (t.nothing_else).same_budget };
+  makes_none = λ o b. (t.nothing_else).same_entries region_var;
 }
 
 pub built_itself : (st : Store) (a b : Tree) → StaysBuilt st st [] a b
-built_itself st a b = λ k ha hb all. builds_none k st st all refl refl (λ o. writes_itself st)
+built_itself st a b = λ k ha hb all. builds_none k st st all refl refl (λ o. writes_itself st) (λ o b. refl)
 
 pub built_same : {before after : Store} (a b : Tree) → after ≡ before → StaysBuilt before after [] a b
 built_same {before} a b e = subst (λ st. StaysBuilt before st [] a b) (sym e) (built_itself before a b)
@@ -296,6 +304,7 @@ builds_asking k st goals asks all = record {
   universe = λ o. refl;
   taint = λ n h. h;
   writes = λ o. writes_itself st;
+  makes_none = λ o b. refl;
 }
 
 -- So where no binder stands in two terms and what was bound, no universe was made.
@@ -314,6 +323,7 @@ builds_noting k {r} {q} gs hs same f asks = subst (λ st. Builds k r st (gs ++ h
   universe = f.universe;
   taint = f.taint;
   writes = f.writes;
+  makes_none = f.makes_none;
 })
 
 -- Where goals are let go the rest stands.
@@ -321,7 +331,14 @@ pub built_refused : {before after : Store} (gs : List Goal) (a b : Tree) → Sta
     StaysBuilt before after [] a b
 built_refused gs a b f = λ k ha hb all.
     let z = f k ha hb all in
-    record { binds = z.binds; asks = All-nil (IsGoalOf k); universe = z.universe; taint = z.taint; writes = z.writes }
+    record {
+      binds = z.binds;
+      asks = All-nil (IsGoalOf k);
+      universe = z.universe;
+      taint = z.taint;
+      writes = z.writes;
+      makes_none = z.makes_none;
+    }
 
 -- One part of the work after another.
 pub builds_then : (k : Alphabet) {r q p : Store} (gs hs : List Goal) → Builds k r q gs → Builds k q p hs →
@@ -332,6 +349,7 @@ builds_then k gs hs f g = record {
   universe = λ o. g.universe o ∙ f.universe o;
   taint = λ n h. f.taint n (g.taint n h);
   writes = λ o. writes_then (f.writes o) (g.writes o);
+  makes_none = λ o b. g.makes_none o b ∙ f.makes_none o b;
 }
 
 -- Of two pairs the second was led to by the first.
@@ -360,7 +378,7 @@ pub built_constraint : (before after : Store) (a b : Tree) → ((j : VarKind) �
 built_constraint before after a b same universe taint budget = λ k ha hb all.
     builds_none k before after
     (binds_still k before after (λ j n. ap (λ es. get_or es n unbound) (same j)) all) universe taint
-    (λ o. record { entries = λ j i. same j; budget = budget })
+    (λ o. record { entries = λ j i. same j; budget = budget }) (λ o b. same region_var)
 
 -- Variables were made, of which nothing is recorded.
 unbound_entries : {u : ℕ} {before after : Store} → MakesUnbound u before after → (j : VarKind) (n : ℕ) →
@@ -386,7 +404,7 @@ pub built_unbound : {u : ℕ} {before after : Store} (a b : Tree) → MakesUnbou
     ((k : Alphabet) → IsBuiltOf k a → IsBuiltOf k b → IsTrue k.variables) → StaysBuilt before after [] a b
 built_unbound {before = before} {after = after} a b f may = λ k ha hb all.
     builds_none k before after (binds_still k before after (unbound_entries f) all) (unbound_universe f)
-    (unbound_taint f) (has_variables k before after (may k ha hb))
+    (unbound_taint f) (has_variables k before after (may k ha hb)) (varies k (may k ha hb))
 
 -- Such as the variables of a binder call for.
 variable_kind_sort : (k : BoundKind) → variable_kind k ≢ region_var → bound_sort k ≢ region_sort
@@ -445,7 +463,7 @@ module _ {x : Variance} {before after : Store} {v : VarKind} {n : ℕ} {source t
   pub builds_instantiated : (k : Alphabet) → IsTrue k.variables → BindsBuiltOf k before → IsBuiltOf k source →
       Builds k before after []
   builds_instantiated k may all h = builds_none k before after binds f.same_universe f.same_taint
-      (has_variables k before after may)
+      (has_variables k before after may) (varies k may)
     where
       binds : BindsBuiltOf k after
       binds j vary m t e = go (which j v m n)
@@ -463,7 +481,7 @@ pub built_equated : {before after : Store} {v : VarKind} {child root : ℕ} (a b
     Equates before after v child root → ((k : Alphabet) → IsBuiltOf k a → IsTrue k.variables) → StaysBuilt before after [] a b
 built_equated {before} {after} a b q may = λ k ha hb all.
     builds_none k before after (binds_written k q.links (λ t e. absurd cc) all) (q.links).same_universe
-    (q.links).same_taint (has_variables k before after (may k ha))
+    (q.links).same_taint (has_variables k before after (may k ha)) (varies k (may k ha))
 
 -- A number variable was bound to a type of its kind.
 number_no_region : (v : VarKind) (t : Tree) → IsNumberFor v t → v ≢ region_var
@@ -477,6 +495,7 @@ pub builds_number : (k : Alphabet) {before after : Store} {v : VarKind} {n : ℕ
 builds_number k {before} {after} {v} t q may h all =
     builds_none k before after (binds_written k q.writes same all) (q.writes).same_universe (q.writes).same_taint
     (has_variables k before after (may (λ e. number_no_region v t q.fits e)))
+    (varies k (may (λ e. number_no_region v t q.fits e)))
   where
     same : (u : Tree) → bound_to t ≡ bound_to u → IsBuiltOf k u
     same u e = let i : t ≡ u = cc in subst (IsBuiltOf k) i h

@@ -74,15 +74,16 @@ pub record WritesNothing (before after : Store) : Type 0 where
   pub entries : (j : VarKind) → j ≢ region_var → after.entries j ≡ before.entries j
   pub budget : after.budget ≡ before.budget
 
--- What is bound after, and what was registered, is built of a alphabet; the current universe is the old one, unless the alphabet
--- has binders; it is tainted only if it was, unless the alphabet has an error; and nothing was bound and spent, and no
--- variable made but of regions, unless the alphabet has others.
+-- What is bound after, and what was registered, is built of an alphabet. The current universe is the old one, unless the
+-- alphabet has binders; it is tainted only if it was, unless the alphabet has an error. Nothing was bound and spent, and
+-- no variable made but of regions, unless the alphabet has such; nor was one of regions, unless it has these or binders.
 pub record Builds (k : Alphabet) (before after : Store) (added : List Goal) : Type 0 where
   pub binds : BindsBuiltOf k after
   pub asks : All (IsGoalOf k) added
   pub universe : k.binders ≡ false → after.universe ≡ before.universe
   pub taint : HasNoError k → IsTrue after.tainted → IsTrue before.tainted
   pub writes : k.variables ≡ false → WritesNothing before after
+  pub makes_none : k.variables ≡ false → k.binders ≡ false → after.entries region_var ≡ before.entries region_var
 
 -- Of whatever two terms and all that was bound are built, so is what is bound after and what was registered.
 abbrev pub StaysBuilt : Store → Store → List Goal → Tree → Tree → Type 0

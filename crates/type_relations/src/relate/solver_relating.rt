@@ -57,7 +57,8 @@ pub trait RelateExt: InferCtxtLike {
     /// of aliases is so, and `Unrelated` only of such that are related nowhere; `Budget` never comes, also where none
     /// is left. Of two without binders and aliases `Ok` says just where they are related: where the constraints hold
     /// that they ask for. Whatever is closed, so that no variable stands in it but of regions, and no binder binds
-    /// others, binds and spends nothing, and makes no variable but of regions; and without aliases no goal is asked.
+    /// others, binds and spends nothing, and makes no variable but of regions, without binders none; and without
+    /// aliases no goal is asked.
     ///
     /// Of two bare terms, which are first-order but for aliases, have no variable but of regions,
     /// and no alias unless aliases are left to goals, `Ok` has recorded just the constraints that
