@@ -39,7 +39,8 @@ needs_as {X} {Key} {Id} {Name} P res f e h = subst (λ z. IfSpent z P) (sym e) (
 pub budget_verdict : {Key Id Name X : Type 0} {r q : State Key Id Name} (M : Manners) (v : Variance) (a b : Tree)
     (tree : X → Tree) (res : Result X (RelateFault Key Id Name)) → res ≡ Err Budget → Related M r q v a b tree res →
     ((q.store).budget ≡ 0) × NeedsVariable r.store a b
-budget_verdict {r = r} {q = q} M v a b tree res e h = (subst (Related M r q v a b tree) e h).verdict
+budget_verdict {r = r} {q = q} M v a b tree res e h =
+    let z = (subst (Related M r q v a b tree) e h).verdict in (z.0, z.1)
 
 module _ {S Key Id Name A : Type 0} (state : S → Context Key Id Name) (old new : S) (over : Option Head)
     (tree : Meaning Key Id Name → A → Tree) (a b : A) (sound : IsSound (state old).store)

@@ -1,7 +1,10 @@
--- Relating two types of which one goal is asked, in a context: that goal, or a refused growth. And an error with another.
+-- Relating two types of which one goal is asked, in a context: that goal, or a refused growth. And an error with another;
+-- and that a fault loses no solution.
 use Rattle.std.proofs.Common.{◌≡◌, ◌<◌, refl, sym, subst, arith, ⊎_elim, List, [], Option, Result, Ok, Err}
+use Rattle.std.proofs.lemmas.List.Elements.{All-nil}
 use Rattle.std.specs.Global.{Vec}
 use Rattle.term_enums.specs.declared.Variance.{Variance}
+use Rattle.term_enums.specs.declared.Variance.TheVariants.{Invariant}
 use Rattle.relation_terms.specs.declared.terms.goal.Goal.{Goal}
 use Rattle.relation_terms.specs.declared.terms.keys.PredicateKey.{PredicateKey}
 use Rattle.relation_terms.specs.declared.terms.keys.ParamEnvKey.{ParamEnvKey}
@@ -12,10 +15,17 @@ use Rattle.relation_folds.specs.declared.error.RelateFault.{RelateFault}
 use Rattle.relation_folds.specs.declared.error.RelateFault.TheVariants.{Memory, Budget, Unrelated}
 use Rattle.term_enums.specs.declared.StructurallyRelateAliases.{StructurallyRelateAliases}
 use Rattle.relation_semantics.specs.Contexts.{Context}
-use Rattle.relation_semantics.specs.Goals.{Goal as GoalOf}
+use Rattle.relation_semantics.specs.Errors.{Meeting}
+use Rattle.relation_semantics.specs.Goals.{Goal as GoalOf, MakesOneTree}
+use Rattle.relation_semantics.specs.Headline.{IsFirstOrderPair, KeepsEqualTerms}
+use Rattle.relation_semantics.specs.Lawful.{State, RefusesAs, ExactResult}
+use Rattle.relation_semantics.specs.Outcomes.{KeepsOne, KeepsUnified}
+use Rattle.relation_semantics.specs.Relation.{Way, at}
+use Rattle.relation_semantics.specs.Stores.{Store}
 use Rattle.relation_semantics.specs.Alphabets.{StaysBuilt}
 use Rattle.relation_semantics.proofs.Building.{built_refused}
 use Rattle.context_relation.specs.Relating.{term_in, AnswersAlone, AnswersAsked, BuildsNoMore, TaintsForError, AsksIfOpen}
+use Rattle.context_relation.specs.Relating.{KeepsEqual, AnswersExactly}
 use Rattle.relation_steps.specs.Alone.{RegistersAlone, RelatesAtOnce}
 use Rattle.relation_combining.specs.Solving.{solving_in, solver_manner}
 use Rattle.context_relation.proofs.Closed.{none_keyed}
@@ -96,3 +106,58 @@ pub refused_built : {S Key Id Name A : Type 0} (state : S → Context Key Id Nam
     BuildsNoMore state old new over tree a b res
 refused_built state old new over tree a b f res is gs h = subst (BuildsNoMore state old new over tree a b) (sym is)
     (built_refused gs (term_in (state old) over tree a) (term_in (state old) over tree b) h)
+
+-- Of what a fault says unless it is a type error.
+abbrev pub UnlessApart : {Key Id Name : Type 0} → RelateFault Key Id Name → Type 0 → Type 0
+UnlessApart (Unrelated e) P = Unit {0}
+UnlessApart f P = P
+
+pub keeps_by : {Key Id Name : Type 0} (x : Meeting) (r q : State Key Id Name) (way : Way) (a b : Tree)
+    (f : RelateFault Key Id Name) → RefusesAs x r q way a b f → UnlessApart f (KeepsOne way r.store q.store a b)
+keeps_by x r q way a b (Unrelated e) h = tt
+keeps_by x r q way a b Budget h = h.2
+keeps_by x r q way a b Memory h = h
+
+pub unified_by : {X Key Id Name : Type 0} (tree : X → Tree) (before after : Store) (a b : Tree)
+    (f : RelateFault Key Id Name) → ExactResult {X = X} before after a b (Err f) →
+    UnlessApart f (KeepsUnified before after a b)
+unified_by tree before after a b (Unrelated e) h = tt
+unified_by tree before after a b Budget h = h.1
+unified_by tree before after a b Memory h = h.1
+
+-- A fault that is no type error loses no solution, as it is handed on.
+module _ {S Key Id Name A : Type 0} (state : S → Context Key Id Name) (old new : S) (over : Option Head)
+    (tree : Meaning Key Id Name → A → Tree) (v : Variance) (a b : A) where
+  pub refused_keeps : (f : RelateFault Key Id Name)
+      (res : Result (Vec (Goal Key (PredicateKey Key))) (RelateFault Key Id Name)) → res ≡ Err f →
+      UnlessApart f (KeepsOne (at v) (state old).store (state new).store (term_in (state old) over tree a)
+      (term_in (state old) over tree b)) → KeepsEqual state old new over tree a b res
+  refused_keeps f res is h = subst (KeepsEqual state old new over tree a b) (sym is) (go f h)
+    where
+      keeps : KeepsOne (at v) (state old).store (state new).store (term_in (state old) over tree a)
+          (term_in (state old) over tree b) → KeepsEqualTerms (state old).store (state new).store []
+          (term_in (state old) over tree a) (term_in (state old) over tree b)
+      keeps k w s sat one = let z = k w s sat one in (z.0, z.1, (z.2, All-nil (MakesOneTree z.0)))
+
+      go : (f : RelateFault Key Id Name) → UnlessApart f (KeepsOne (at v) (state old).store (state new).store
+          (term_in (state old) over tree a) (term_in (state old) over tree b)) →
+          KeepsEqual state old new over tree a b (Err f)
+      go (Unrelated e) h = tt
+      go Budget h = keeps h
+      go Memory h = keeps h
+
+  pub refused_exactly : (f : RelateFault Key Id Name)
+      (res : Result (Vec (Goal Key (PredicateKey Key))) (RelateFault Key Id Name)) → res ≡ Err f →
+      (v ≡ Invariant → IsFirstOrderPair (state old).store (term_in (state old) over tree a)
+      (term_in (state old) over tree b) → UnlessApart f (KeepsUnified (state old).store (state new).store
+      (term_in (state old) over tree a) (term_in (state old) over tree b))) →
+      AnswersExactly state old new over tree v a b res
+  refused_exactly f res is h = subst (AnswersExactly state old new over tree v a b) (sym is) (go f h)
+    where
+      go : (f : RelateFault Key Id Name) → (v ≡ Invariant → IsFirstOrderPair (state old).store
+          (term_in (state old) over tree a) (term_in (state old) over tree b) → UnlessApart f
+          (KeepsUnified (state old).store (state new).store (term_in (state old) over tree a)
+          (term_in (state old) over tree b))) → AnswersExactly state old new over tree v a b (Err f)
+      go (Unrelated e) h = tt
+      go Budget h = h
+      go Memory h = h

@@ -50,6 +50,7 @@ use Rattle.relation_semantics.proofs.Agreeing.{agree_regions}
 use Rattle.relation_semantics.specs.Agreeing.{Agree}
 use Rattle.relation_semantics.specs.Lawful.{Verdict, WithMeaning, RegisteredIn, RecordsOf}
 use Rattle.relation_semantics.proofs.Going.{goes_nowhere, goes_within, later_itself}
+use Rattle.relation_semantics.proofs.Keeping.{one_itself, one_same, unified_itself, unified_same}
 use Rattle.relation_semantics.proofs.Remembering.{none_related, were_related_later}
 use Rattle.relation_semantics.proofs.Roots.{roots_goes}
 use Rattle.relation_semantics.proofs.Full.{full_itself}
@@ -142,17 +143,17 @@ module _ {Key Id Name : Type 0} {j j' : Held Key} (held : j' ≡ j) (gs : List (
   module _ (X : Type 0) (m n : Meaning Key Id Name) (was now : Store) (L K : Type 0) (v : Variance) (e : ParamEnvKey Key)
       (env : KnowsGoals m e gs) (same : n ≡ m) (l : K) (a b : Tree) where
     -- Memory ran out.
-    pub memory_refused : (tree : X → Tree) (r : Result X (RelateFault Key Id Name)) → r ≡ Err Memory →
+    pub memory_refused : (tree : X → Tree) (r : Result X (RelateFault Key Id Name)) → r ≡ Err Memory → now ≡ was →
         Goes 0 was now → all_bound now ≡ all_bound was → StaysFull was now → StaysBuilt was now [] a b →
         Related solver_manner (solving j gs m was L v e) (solving j' gs n now K v e) v a b tree r
     unfolding solver_passes
-    memory_refused tree r is goes as_many full built = subst₂ (λ n r. Related solver_manner (solving j gs m was L v e)
+    memory_refused tree r is stays goes as_many full built = subst₂ (λ n r. Related solver_manner (solving j gs m was L v e)
         (solving j' gs n now K v e) v a b tree r)
         (sym same) (sym is)
         (record {
           passes = solver_passes v e (stays_same m) env (goes_within (omega arith) goes) l;
-          verdict = tt;
-          exact = λ k is pair. binds_none was now a b as_many;
+          verdict = one_same (at v) a b stays;
+          exact = λ k is pair. (binds_none was now a b as_many, unified_same a b stays);
           full = λ ha hb. full;
           built = built;
           records = tt;
@@ -327,8 +328,8 @@ module _ {Key Id Name : Type 0} {j j' : Held Key} (held : j' ≡ j) (gs : List (
       subst₂ (λ now r. Stepped solver_manner F (solving j gs m was L v e) (solving j' gs n now K v e) a b tree r) (sym stays)
       (sym is) (record {
         passes = solver_passes v e grown env (goes_nowhere _ was) l;
-        verdict = tt;
-        exact = λ k is pair. binds_itself was a b;
+        verdict = one_itself (at v) was a b;
+        exact = λ k is pair. (binds_itself was a b, unified_itself was a b);
         full = λ ha hb. full_itself was;
         built = built_itself was a b;
       })
@@ -444,7 +445,7 @@ module _ {Key Id Name X : Type 0} (j i : Held Key) (gs hs : List (KeyedGoal Key 
         o.2,
       )
       verdict (Err Budget) o = o
-      verdict (Err Memory) o = tt
+      verdict (Err Memory) o = o
 
   pub as_before : Related solver_manner (solving j gs m was L v e) (solving i hs n now K w f) v a b tree result →
       Related solver_manner (solving (seen_from j j) gs m was L v e) (solving (seen_from j i) hs n now K v e) v a b tree result
@@ -512,7 +513,7 @@ module _ {Key Id Name X : Type 0} (j i : Held Key) (gs hs : List (KeyedGoal Key 
       }
       verdict (Err (Unrelated g)) o = o
       verdict (Err Budget) o = o
-      verdict (Err Memory) o = tt
+      verdict (Err Memory) o = o
 
 module _ {Key Id Name : Type 0} (aliases : StructurallyRelateAliases) (j : ℕ) (ps : List (Pair Key))
     (gs : List (KeyedGoal Key (PredicateKey Key))) where

@@ -29,6 +29,7 @@ use Rattle.relation_steps.specs.Rounds.{OneRound, RoundSteps, one_round, first_r
 use Rattle.relation_steps.specs.Rounds.{RoundVerdict, Opened}
 use Rattle.relation_combining.specs.Solving.{KnowsGoals, solving_through, solver_manner}
 use Rattle.relation_semantics.proofs.Going.{goes_nowhere, goes_within}
+use Rattle.relation_semantics.proofs.Keeping.{opening_keeps}
 use Rattle.relation_semantics.proofs.Opened.{none_escapes, within_none}
 use Rattle.relation_semantics.proofs.Opening.{covariant_step, contravariant_step, unused_step}
 use Rattle.relation_combining.proofs.OverContext.{all_taken}
@@ -115,7 +116,8 @@ module _ {Key Id Name : Type 0} (aliases : StructurallyRelateAliases) (j : ℕ) 
   opening_refused env sound grows middle changes taint ks first round a b tree result is has =
       subst (Opened solver_manner before after round a b tree) (sym is)
       (opened env grows (opened_goes c.store middle d.store changes sound (each_unbound first.2)) round a b tree
-      (Err Memory) tt (built_opened c.store d.store ks a b changes taint (each_unbound first.2) (first_writes ks first) has))
+      (Err Memory) (tt, opening_keeps c.store middle d.store changes sound (each_unbound first.2))
+      (built_opened c.store d.store ks a b changes taint (each_unbound first.2) (first_writes ks first) has))
 
   -- Bodies that were opened.
   module _ (round : ℕ) (ks ls : List BoundKind) (t u x y : Tree)

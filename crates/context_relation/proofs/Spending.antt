@@ -33,10 +33,10 @@ module _ {Key Id Name X : Type 0} {r q : State Key Id Name} (M : Manners) (v : V
       let low : all_bound q.store ≤ all_roots r.store = omega (arith, z, o) in (within (h.passes).goes low, tt)
   spends_no_more (Err (Unrelated e)) h = (within (h.passes).goes ((h.exact exact is pair).1 u one), tt)
   spends_no_more (Err Budget) h =
-      let z : all_bound q.store < all_roots r.store = h.exact exact is pair u one in
+      let z : all_bound q.store < all_roots r.store = (h.exact exact is pair).0 u one in
       let low : all_bound q.store ≤ all_roots r.store = omega (arith, z) in
       (within (h.passes).goes low, fewer (h.passes).goes (h.verdict).0 z)
-  spends_no_more (Err Memory) h = (within (h.passes).goes (h.exact exact is pair u one), tt)
+  spends_no_more (Err Memory) h = (within (h.passes).goes ((h.exact exact is pair).0 u one), tt)
 
 -- The same fault, of whatever was to be answered.
 pub spent_as : {X Y Key Id Name : Type 0} (P : Type 0) (res : Result X (RelateFault Key Id Name))

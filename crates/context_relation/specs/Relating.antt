@@ -13,7 +13,7 @@
 --   AnswersOnly state old new g e v result   only goals that relating registers are answered
 --   AnswersTerms .. e v a b result           sound: what satisfies the record after and makes the goals true relates a
 --                                            and b at v in e
---   KeepsEqual .. a b result                 no equal pair is lost
+--   KeepsEqual .. a b result                 no equal pair is lost, unless a type error says that there is none
 --   TellsApart .. a b result                 a type error says that no assignment made the two one
 --   AnswersError .. g v a b result           and which error it is, aliases being related as g says
 --   RelatesAgreeing .. g v a b result        where the two are related nothing in them clashes
@@ -36,14 +36,14 @@ use Rattle.relation_terms.specs.Heads.{Head}
 use Rattle.relation_terms.specs.Trees.{Tree, known}
 use Rattle.relation_terms.specs.Meaning.{Meaning}
 use Rattle.relation_folds.specs.declared.error.RelateFault.{RelateFault}
-use Rattle.relation_folds.specs.declared.error.RelateFault.TheVariants.{Memory}
+use Rattle.relation_folds.specs.declared.error.RelateFault.TheVariants.{Memory, Unrelated}
 use Rattle.relation_folds.specs.Faults.{IfUnrelated, IfSpent}
 use Rattle.relation_semantics.specs.Stores.{IsTermIn}
 use Rattle.relation_semantics.specs.Goals.{Goal as GoalOf, goals_of, goal_of, well_formed_predicate}
 use Rattle.relation_semantics.specs.Steps.{MakesToInstantiate, Taints}
 use Rattle.relation_semantics.specs.Alphabets.{StaysBuilt}
 use Rattle.relation_semantics.specs.FirstOrder.{IsFirstOrderStore}
-use Rattle.relation_semantics.specs.Outcomes.{NoEqualTerms, Exact, NoUnifier}
+use Rattle.relation_semantics.specs.Outcomes.{NoEqualTerms, Exact, NoUnifier, KeepsUnified}
 use Rattle.relation_semantics.specs.Headline.{AnswersGoals, KeepsEqualTerms, IsFirstOrderPair}
 use Rattle.relation_semantics.specs.OneUniverse.{IsPairOf, KeepsUniverseOf, all_unbound}
 use Rattle.relation_semantics.specs.Relation.{at}
@@ -108,10 +108,13 @@ module _ {S Key Id Name A : Type 0} (state : S → Context Key Id Name) (old new
   AnswersTerms e v a b result = IfOk result (λ goals. AnswersGoals (items_of (state old).meaning) (state old).store
       (state new).store (goals_of (state new).meaning goals.items) (((state old).meaning).param_env e) v (term a) (term b))
 
-  -- No equal pair is lost, where the two are related.
+  -- No equal pair is lost, where the two are related, and where relating them stopped for want of memory or of
+  -- instantiations.
   abbrev pub KeepsEqual : A → A → Result (Vec (Goal Key (PredicateKey Key))) (RelateFault Key Id Name) → Type 0
-  KeepsEqual a b result = IfOk result (λ goals. KeepsEqualTerms (state old).store (state new).store
-      (goals_of (state new).meaning goals.items) (term a) (term b))
+  KeepsEqual a b (Ok goals) = KeepsEqualTerms (state old).store (state new).store
+      (goals_of (state new).meaning goals.items) (term a) (term b)
+  KeepsEqual a b (Err (Unrelated e)) = Unit {0}
+  KeepsEqual a b (Err f) = KeepsEqualTerms (state old).store (state new).store [] (term a) (term b)
 
   -- No assignment made the two one, where they are not related.
   abbrev pub TellsApart : {X : Type 0} → A → A → Result X (RelateFault Key Id Name) → Type 0
@@ -147,13 +150,15 @@ module _ {S Key Id Name A : Type 0} (state : S → Context Key Id Name) (old new
 
   -- Exact, of first-order terms in a first-order record at invariance: just the solutions that unify them stay, up to
   -- erasure, the record stays first-order, and in one universe what was in one, with no more variables; and no goal is
-  -- answered.
+  -- answered. Where it stopped for want of memory or of instantiations, none of these solutions is lost.
   abbrev pub AnswersExactly : Variance → A → A → Result (Vec (Goal Key (PredicateKey Key))) (RelateFault Key Id Name) →
       Type 0
-  AnswersExactly v a b result = IfOk result (λ goals. v ≡ Invariant →
-      IsFirstOrderPair (state old).store (term a) (term b) →
+  AnswersExactly v a b (Ok goals) = v ≡ Invariant → IsFirstOrderPair (state old).store (term a) (term b) →
       Exact (state old).store (state new).store (term a) (term b) × IsFirstOrderStore (state new).store ×
-      KeepsUniverseOf (state old).store (state new).store (term a) (term b) × (goals.items ≡ []))
+      KeepsUniverseOf (state old).store (state new).store (term a) (term b) × (goals.items ≡ [])
+  AnswersExactly v a b (Err (Unrelated e)) = Unit {0}
+  AnswersExactly v a b (Err f) = v ≡ Invariant → IsFirstOrderPair (state old).store (term a) (term b) →
+      KeepsUnified (state old).store (state new).store (term a) (term b)
 
   -- A type error of such terms says that nothing unified them, up to erasure.
   abbrev pub ProvesApart : {X : Type 0} → Variance → A → A → Result X (RelateFault Key Id Name) → Type 0

@@ -26,6 +26,7 @@ use Rattle.relation_semantics.specs.Lawful.{items_of, Passes, Related, items_in}
 use Rattle.relation_semantics.specs.Constraints.{constraint_at, constraint_of}
 use Rattle.plain_relation.specs.Plain.{as_is, plain_settings, plain_store, plain_state, plain_manner}
 use Rattle.relation_semantics.proofs.Full.{full_itself, full_by}
+use Rattle.relation_semantics.proofs.Keeping.{one_itself, unified_itself}
 use Rattle.relation_semantics.proofs.Building.{builds_none, built_itself}
 use Rattle.relation_semantics.proofs.Trees.{all_leaves, apply_own, own_other}
 use Rattle.context_relation.proofs.Constraints.{asked_in, asked_relates, asked_met}
@@ -225,8 +226,8 @@ module _ {Key Id Name : Type 0} (m : Meaning Key Id Name) where
     unfolding passes_nowhere
     refused = record {
       passes = passes_nowhere _ (plain_state m v cs);
-      verdict = tt;
-      exact = λ k is pair. binds_itself (plain_store m cs) a b;
+      verdict = one_itself (at w) (plain_store m cs) a b;
+      exact = λ k is pair. (binds_itself (plain_store m cs) a b, unified_itself (plain_store m cs) a b);
       full = λ ha hb. full_itself (plain_store m cs);
       built = built_itself (plain_store m cs) a b;
       records = tt;

@@ -33,6 +33,7 @@ use Rattle.relation_semantics.proofs.Answering.{may_itself}
 use Rattle.relation_semantics.proofs.Building.{builds_asking, built_same, builds_tainted}
 use Rattle.relation_semantics.proofs.Full.{full_same, full_by}
 use Rattle.relation_semantics.proofs.Going.{goes_within}
+use Rattle.relation_semantics.proofs.Keeping.{one_same, unified_same}
 use Rattle.relation_semantics.proofs.OneUniverse.{binds_itself}
 use Rattle.relation_semantics.proofs.Passing.{relates_by}
 use Rattle.relation_semantics.proofs.Registered.{alias_registered, alias_built}
@@ -87,8 +88,11 @@ module _ {Key Id Name K : Type 0} (F : Tree → Type 0) {r q : State Key Id Name
   unfolding no_goal_passes
   goal_refused p h = record {
     passes = no_goal_passes p h (weight r.store a + weight r.store b);
-    verdict = tt;
-    exact = λ z is pair. subst (λ st. BindsNoMore r.store st a b) (sym h.store) (binds_itself r.store a b);
+    verdict = one_same (at r.ambient) a b h.store;
+    exact = λ z is pair. (
+      subst (λ st. BindsNoMore r.store st a b) (sym h.store) (binds_itself r.store a b),
+      unified_same a b h.store,
+    );
     full = λ ha hb. full_same h.store;
     built = built_same a b h.store;
   }

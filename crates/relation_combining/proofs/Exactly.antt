@@ -16,7 +16,7 @@ use Rattle.relation_semantics.specs.FirstOrder.{IsFirstOrder, IsFirstOrderStore,
 use Rattle.relation_semantics.specs.Headline.{IsFirstOrderPair}
 use Rattle.relation_semantics.specs.Errors.{IsReadAs, itself, by_class, by_binding}
 use Rattle.relation_semantics.specs.Steps.{IsLater}
-use Rattle.relation_semantics.specs.Outcomes.{Exact, ExactStep, NoUnifier}
+use Rattle.relation_semantics.specs.Outcomes.{Exact, ExactStep, NoUnifier, KeepsUnified}
 use Rattle.relation_semantics.proofs.ReadAs.{read_resolves}
 use Rattle.relation_semantics.proofs.Going.{later_itself}
 use Rattle.relation_semantics.proofs.Erased.{erase_region}
@@ -69,6 +69,9 @@ module _ (st : Store) (g : IsSound st) (a b u w : Tree) (p : IsReadAs st a u) (q
     shrinks = λ s sol. let z = f.shrinks s sol in (z.0, (reads_unify s z.0).1 z.1);
     keeps = λ s sol one. f.keeps s sol ((reads_unify s sol).0 one);
   }
+
+  pub unified_read : (after : Store) → KeepsUnified st after u w → KeepsUnified st after a b
+  unified_read after f s sol one = f s sol ((reads_unify s sol).0 one)
 
   pub apart_read : NoUnifier st u w → NoUnifier st a b
   apart_read n s sol one = n s sol ((reads_unify s sol).0 one)

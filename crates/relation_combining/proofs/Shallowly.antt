@@ -25,7 +25,7 @@ use Rattle.relation_semantics.proofs.Building.{built_read}
 use Rattle.relation_semantics.proofs.Standing.{made_of_term}
 use Rattle.relation_semantics.specs.Resolving.{IsShallowConst, const_root, no_variable}
 use Rattle.relation_combining.specs.Solving.{solver_manner}
-use Rattle.relation_combining.proofs.Exactly.{read_pair, step_read, exact_read, apart_read}
+use Rattle.relation_combining.proofs.Exactly.{read_pair, step_read, exact_read, apart_read, unified_read}
 use Rattle.relation_semantics.specs.OneUniverse.{LeadsInUniverse}
 use Rattle.relation_semantics.proofs.OneUniverse.{reading_leads, led_then, led_keeps, led_binds, led_fewer}
 use Rattle.relation_semantics.proofs.AliasSteps.{free_entry}
@@ -143,8 +143,9 @@ module _ {Key Id Name : Type 0} (r q : State Key Id Name) (g : IsSound r.store) 
       read_verdict (Err Budget) h = (
         h.0,
         λ k ha hb all. h.1 k (built_read k r.store all a u p ha) (built_read k r.store all b w o hb) all,
+        λ i s sat one. h.2 i s sat (sym (value_a i s sat) ∙ one ∙ value_b i s sat),
       )
-      read_verdict (Err Memory) h = tt
+      read_verdict (Err Memory) h = λ i s sat one. h i s sat (sym (value_a i s sat) ∙ one ∙ value_b i s sat)
 
       read_exact : (res : Result (Step K) (RelateFault Key Id Name)) → ExactVerdict r q u w tree res →
           ExactVerdict r q a b tree res
@@ -165,8 +166,14 @@ module _ {Key Id Name : Type 0} (r q : State Key Id Name) (g : IsSound r.store) 
       )
       read_exact (Err (Unrelated e)) h =
           (apart_read r.store g a b u w p o h.0, led_binds r.store r.store q.store a b u w as_read h.1)
-      read_exact (Err Budget) h = led_fewer r.store r.store q.store a b u w as_read h
-      read_exact (Err Memory) h = led_binds r.store r.store q.store a b u w as_read h
+      read_exact (Err Budget) h = (
+        led_fewer r.store r.store q.store a b u w as_read h.0,
+        unified_read r.store g a b u w p o q.store h.1,
+      )
+      read_exact (Err Memory) h = (
+        led_binds r.store r.store q.store a b u w as_read h.0,
+        unified_read r.store g a b u w p o q.store h.1,
+      )
 
   pub read_step : {K : Type 0} (F : Tree → Type 0) (tree : K → Tree) (res : Result (Step K) (RelateFault Key Id Name)) →
       Stepped solver_manner F r q u w tree res → Stepped solver_manner F r q a b tree res

@@ -25,7 +25,7 @@ use Rattle.relation_combining.proofs.BoundInPlace.{bound_left, bound_right}
 use Rattle.relation_semantics.proofs.Building.{term_built, builds_instantiated, builds_noting, built_same, built_unbound}
 use Rattle.relation_semantics.proofs.Passing.{passes_then}
 use Rattle.relation_semantics.proofs.Registered.{alias_registered, alias_built}
-use Rattle.relation_semantics.specs.Outcomes.{Outcome, StepsTo, CarriesOver, ExactStep}
+use Rattle.relation_semantics.specs.Outcomes.{Outcome, StepsTo, CarriesOver, ExactStep, KeepsOne}
 use Rattle.relation_semantics.specs.Measures.{Goes, grown as squared}
 use Rattle.term_enums.specs.declared.StructurallyRelateAliases.{StructurallyRelateAliases}
 use Rattle.term_enums.specs.declared.StructurallyRelateAliases.TheVariants.{No}
@@ -49,6 +49,7 @@ use Rattle.relation_combining.proofs.Constants.{fixed, constants_at_each_varianc
 use Rattle.relation_combining.proofs.ConstErrors.{const_error_alike}
 use Rattle.relation_combining.proofs.Turning.{turned}
 use Rattle.relation_semantics.proofs.Going.{goes_nowhere, goes_within, grown-mono, later_itself}
+use Rattle.relation_semantics.proofs.Keeping.{one_same, one_of_all, unified_same, adding_keeps, adding_keeps_erased}
 use Rattle.relation_semantics.proofs.ReadAs.{read_later}
 use Rattle.relation_semantics.proofs.Resolved.{resolved_free, resolved_weight}
 use Rattle.relation_semantics.proofs.Standing.{later_term, later_context, term_context, term_of_made, term_sort_of}
@@ -60,7 +61,7 @@ use Rattle.relation_semantics.proofs.Instantiating.{resolved_first_order}
 use Rattle.relation_semantics.proofs.BindingGeneralised.{generalised_instantiates, generalised_goes, generalised_weights, generalised_first_order, first_order_lacks}
 use Rattle.relation_combining.proofs.BindingRefused.{generalising_refuses, refused}
 use Rattle.relation_combining.proofs.GeneralisingErrors.{beyond_error}
-use Rattle.relation_semantics.proofs.NewVariables.{adds, adds_goes}
+use Rattle.relation_semantics.proofs.NewVariables.{Adds, adds, adds_goes}
 use Rattle.relation_semantics.proofs.Full.{full_same, full_could, instantiates_one}
 use Rattle.relation_combining.proofs.OverContext.{standing, over_passes, all_taken}
 use Rattle.relation_semantics.specs.OneUniverse.{NamesTypesTo, HasOneUniverse, all_roots, StaysOf, LeadsInUniverse, BindsFewer}
@@ -570,7 +571,8 @@ module _ {Key Id Name : Type 0} (r0 : State Key Id Name) (L K : Type 0) (lawful 
       left_unasked = record {
         passes = passes_then (over_passes r0 grown (spends (weight c.store lone + weight c.store t) first_weight) lawful)
             (no_goal_passes pred h 0) (omega arith);
-        verdict = tt;
+        verdict = subst (λ st. KeepsOne (at r0.ambient) c.store st lone t) (sym h.store)
+            (λ w s sat one. is_bound.keeps w s sat one);
         exact = λ o same pair. absurd (not_first pair.right);
         full = λ ha hb. full_could instantiates;
         built = λ k ha hb binds. unasked_built k (ha (no_region type_var tt)) hb binds;
@@ -581,7 +583,8 @@ module _ {Key Id Name : Type 0} (r0 : State Key Id Name) (L K : Type 0) (lawful 
       right_unasked = record {
         passes = passes_then (over_passes r0 grown (spends (weight c.store t + weight c.store lone) second_weight) lawful)
             (no_goal_passes pred h 0) (omega arith);
-        verdict = tt;
+        verdict = subst (λ st. KeepsOne (at r0.ambient) c.store st t lone) (sym h.store)
+            (λ w s sat one. is_bound.keeps w s sat (sym one));
         exact = λ o same pair. absurd (not_first pair.left);
         full = λ ha hb. full_could instantiates;
         built = λ k ha hb binds. unasked_built k (hb (no_region type_var tt)) ha binds;
@@ -641,6 +644,11 @@ module _ {Key Id Name : Type 0} (r0 : State Key Id Name) (L K : Type 0) (lawful 
     none_bound : MakesUnbound (universe_of c.store k target) c.store d.store → all_bound d.store ≡ all_bound c.store
     none_bound h = (adds before (before.below_current k target) h).none_bound
 
+    -- Variables that were made on the way may have any value.
+    new_ones : MakesUnbound (universe_of c.store k target) c.store d.store →
+        Adds (universe_of c.store k target) c.store d.store
+    new_ones h = adds before (before.below_current k target) h
+
     fewer : (a b : Tree) → d.store ≡ c.store → BindsFewer c.store d.store a b
     fewer a b h w p = subst (λ st. all_bound st < all_roots c.store) (sym h)
         (bound_fewer c.store k target counted unresolved.0 unresolved.1)
@@ -661,15 +669,23 @@ module _ {Key Id Name : Type 0} (r0 : State Key Id Name) (L K : Type 0) (lawful 
     }
     left_refused Budget h = record {
       passes = passes _ Budget h;
-      verdict = (ap (λ st. st.budget) h.1 ∙ h.0, λ j ha hb all. ha free);
-      exact = λ o is pair. fewer (leaf (variable k target)) t h.1;
+      verdict = (
+        ap (λ st. st.budget) h.1 ∙ h.0,
+        λ j ha hb all. ha free,
+        one_same (at r0.ambient) (leaf (variable k target)) t h.1,
+      );
+      exact = λ o is pair. (fewer (leaf (variable k target)) t h.1, unified_same (leaf (variable k target)) t h.1);
       full = λ ha hb. full Budget h;
       built = none_built (leaf (variable k target)) t (λ j ha hb. ha free) Budget h;
     }
     left_refused Memory h = record {
       passes = passes _ Memory h;
-      verdict = tt;
-      exact = λ o is pair. binds_none c.store d.store (leaf (variable k target)) t (none_bound h.1);
+      verdict = one_of_all (at r0.ambient) c.store d.store (leaf (variable k target)) t
+          (adding_keeps (universe_of c.store k target) c.store d.store before (new_ones h.1));
+      exact = λ o is pair. (
+        binds_none c.store d.store (leaf (variable k target)) t (none_bound h.1),
+        λ s sol one. adding_keeps_erased (universe_of c.store k target) c.store d.store before (new_ones h.1) s sol,
+      );
       full = λ ha hb. full Memory h;
       built = none_built (leaf (variable k target)) t (λ j ha hb. ha free) Memory h;
     }
@@ -694,15 +710,23 @@ module _ {Key Id Name : Type 0} (r0 : State Key Id Name) (L K : Type 0) (lawful 
     }
     right_refused Budget h = record {
       passes = passes _ Budget h;
-      verdict = (ap (λ st. st.budget) h.1 ∙ h.0, λ j ha hb all. hb free);
-      exact = λ o is pair. fewer t (leaf (variable k target)) h.1;
+      verdict = (
+        ap (λ st. st.budget) h.1 ∙ h.0,
+        λ j ha hb all. hb free,
+        one_same (at r0.ambient) t (leaf (variable k target)) h.1,
+      );
+      exact = λ o is pair. (fewer t (leaf (variable k target)) h.1, unified_same t (leaf (variable k target)) h.1);
       full = λ ha hb. full Budget h;
       built = none_built t (leaf (variable k target)) (λ j ha hb. hb free) Budget h;
     }
     right_refused Memory h = record {
       passes = passes _ Memory h;
-      verdict = tt;
-      exact = λ o is pair. binds_none c.store d.store t (leaf (variable k target)) (none_bound h.1);
+      verdict = one_of_all (at r0.ambient) c.store d.store t (leaf (variable k target))
+          (adding_keeps (universe_of c.store k target) c.store d.store before (new_ones h.1));
+      exact = λ o is pair. (
+        binds_none c.store d.store t (leaf (variable k target)) (none_bound h.1),
+        λ s sol one. adding_keeps_erased (universe_of c.store k target) c.store d.store before (new_ones h.1) s sol,
+      );
       full = λ ha hb. full Memory h;
       built = none_built t (leaf (variable k target)) (λ j ha hb. hb free) Memory h;
     }

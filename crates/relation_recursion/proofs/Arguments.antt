@@ -13,8 +13,9 @@ use Rattle.relation_folds.specs.declared.error.RelateFault.{RelateFault}
 use Rattle.relation_folds.specs.declared.error.RelateFault.TheVariants.{Memory, Budget, Unrelated}
 use Rattle.relation_steps.specs.declared.arguments.ArgVariances.{ArgVariances}
 use Rattle.relation_steps.specs.declared.arguments.ArgVariances.TheVariants.{Invariant, Adt, FnDef, AliasTerm, Trait}
-use Rattle.relation_semantics.specs.Relation.{Items, forms, part_at, plain, plain_kind, IsRelatedHead, IsAlias, IsAliasHead}
+use Rattle.relation_semantics.specs.Relation.{Items, at, parts, forms, part_at, plain, plain_kind, IsRelatedHead, IsAlias, IsAliasHead}
 use Rattle.relation_semantics.specs.Stores.{Store}
+use Rattle.relation_semantics.specs.Outcomes.{KeepsOne}
 use Rattle.relation_semantics.specs.Settings.{Settings}
 use Rattle.relation_semantics.specs.FirstOrder.{IsFirstOrderHead, Unifies}
 use Rattle.relation_semantics.specs.Errors.{ErrorOf, by_forms, IsHandedOn, of_parts}
@@ -35,7 +36,8 @@ use Rattle.relation_semantics.proofs.Asking.{neither_alias}
 use Rattle.relation_semantics.proofs.Recording.{front_ends}
 use Rattle.relation_semantics.proofs.RecordingForms.{bare_parts}
 use Rattle.relation_steps.proofs.Fronts.{Fronted, AreParts, IsLookedAt, fronted_all, fronted_never, fronted_passes, fronted_fault, fronted_exactly, fronted_needs}
-use Rattle.relation_steps.proofs.Fronts.{fronted_full, fronted_built, fronted_agree}
+use Rattle.relation_steps.proofs.Fronts.{fronted_full, fronted_built, fronted_agree, fronted_keeps}
+use Rattle.relation_semantics.proofs.Keeping.{one_inside, one_so_far, unified_inside}
 use Rattle.relation_semantics.proofs.Answering.{same_items, may_itself}
 use Rattle.relation_semantics.proofs.OneUniverse.{keeps_binds, binds_as}
 use Rattle.relation_recursion.proofs.Unifying.{first_order_parts, one_head, answered_as, refused_by}
@@ -197,6 +199,11 @@ module _ {Key Id Name : Type 0} {r q : State Key Id Name} (M : Manners) (v : Var
         (f.records promised (bare_parts r.kept.settings (node h ts) (node k us) bare));
   }
 
+  -- What made the parts one made the forms one.
+  form_keeps : (after : Store) → KeepsOne (parts h 0 v) r.store after ts us →
+      KeepsOne (at v) r.store after (node h ts) (node k us)
+  form_keeps after o = one_inside (at v) (parts h 0 v) r.store after (node h ts) (node k us) ts us one_list o
+
   front_binds : (M r.kept.settings).is_exact → v ≡ AtInvariance → IsFirstOrderPair r.store (node h ts) (node k us) →
       BindsNoMore r.store q.store (node h ts) (node k us)
   front_binds exact is pair = binds_as r.store q.store (node h ts) (node k us) ts us (λ u z. z) (λ u z. z)
@@ -208,7 +215,13 @@ module _ {Key Id Name : Type 0} {r q : State Key Id Name} (M : Manners) (v : Var
   unfolding passes_within
   form_stopped tree = stopped M v (node h ts) (node k us) tree
       (passes_within (omega (arith, weight_parts_most r.store (node h ts), weight_parts_most r.store (node k us))) f.passes)
-      front_binds f.full (λ j ha hb. f.built j ha.1 hb.1)
+      (form_keeps q.store (one_so_far f.front))
+      (λ exact is pair. (
+        front_binds exact is pair,
+        unified_inside r.store q.store (node h ts) (node k us) ts us unified
+            ((f.exact exact is looked (list_pair pair)).1).keeps,
+      ))
+      f.full (λ j ha hb. f.built j ha.1 hb.1)
 
   -- After some of the parts it is seen that the forms are never one.
   pub form_unlike : {X : Type 0} (tree : X → Tree) (e : TypeError Key Id Name) → h ≢ k →
@@ -240,9 +253,12 @@ module _ {Key Id Name : Type 0} {r q : State Key Id Name} (M : Manners) (v : Var
           (sym (same_items l ∙ same_items f.passes)) o.1)),
       o.2,
     )
-    refuses l Budget o =
-        (o.0, λ j ha hb. fronted_needs h v i ts us x y f lx ly ex ey o.1 j ha.1 hb.1)
-    refuses l Memory o = tt
+    refuses {p = p} l Budget o = (
+      o.0,
+      λ j ha hb. fronted_needs h v i ts us x y f lx ly ex ey o.1 j ha.1 hb.1,
+      form_keeps p.store (fronted_keeps h v i ts us x y f lx ly ex ey p are o.2),
+    )
+    refuses {p = p} l Memory o = form_keeps p.store (fronted_keeps h v i ts us x y f lx ly ex ey p are o)
 
     exactly : (A B : Type 0) (p : State Key Id Name) (e : RelateFault Key Id Name) →
         ExactlyRelated {X = A} (M q.kept.settings) q.store p.store (part_at (items_in r) h i v) x y (Err e) →

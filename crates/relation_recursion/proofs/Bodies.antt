@@ -80,5 +80,5 @@ module _ {Key Id Name : Type 0} where
   pub opened_not : {T U : Type 0} {r q : State Key Id Name} (M : Manners) (n : ℕ) (a b : Tree) (tree : T → Tree)
       (other : U → Tree) (f : RelateFault Key Id Name) → Opened M r q n a b tree (Err f) →
       Opened M r q n a b other (Err f)
-  opened_not M n a b tree other Memory o = record { passes = o.passes; verdict = tt; built = o.built }
-  opened_not M n a b tree other f o = absurd o.verdict
+  opened_not M n a b tree other Memory o = record { passes = o.passes; verdict = (tt, (o.verdict).1); built = o.built }
+  opened_not M n a b tree other f o = absurd (o.verdict).0

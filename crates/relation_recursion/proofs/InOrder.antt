@@ -33,11 +33,13 @@ use Rattle.relation_semantics.specs.Lawful.{ExactResult, ExactlyRelated}
 use Rattle.relation_semantics.proofs.Registered.{registered_in}
 use Rattle.relation_semantics.proofs.Passing.{passes_within, passes_then, manner_then, stopped}
 use Rattle.relation_steps.proofs.Fronts.{Fronted, AreParts, fronted_never, fronted_all, fronted_passes, fronted_fault, fronted_needs}
+use Rattle.relation_steps.proofs.Fronts.{fronted_keeps}
+use Rattle.relation_semantics.proofs.Keeping.{one_so_far, unified_inside}
 use Rattle.relation_steps.proofs.Fronts.{fronted_exactly, fronted_full, fronted_built, fronted_agree}
 use Rattle.relation_semantics.proofs.Building.{built_parts}
 use Rattle.relation_semantics.proofs.AgreeingForms.{form_agrees}
 use Rattle.relation_semantics.proofs.Full.{parts_plain}
-use Rattle.relation_recursion.proofs.StructuralTys.{types_never, parts_pair}
+use Rattle.relation_recursion.proofs.StructuralTys.{types_never, forms_keep, parts_pair}
 use Rattle.relation_recursion.proofs.StructuralConsts.{refused_here}
 use Rattle.relation_recursion.proofs.Unifying.{answered_as, refused_as}
 use Rattle.relation_semantics.proofs.OneUniverse.{leaves_parts, keeps_binds, binds_as}
@@ -63,11 +65,17 @@ module _ {Key Id Name : Type 0} {r q : State Key Id Name} (M : Manners) (v : Var
       (f.exact exact is (term_looked_at a form) (parts_pair r.store a b pair)).2)
 
   -- Memory ran out after some of the parts.
-  pub terms_stopped : {X : Type 0} {w : Meeting} (tree : X → Tree) →
+  pub terms_stopped : {X : Type 0} {w : Meeting} (tree : X → Tree) → AreOfOneForm a b →
       Fronted M r q (head_of a) v i (direct_parts a) (direct_parts b) → RelatedAs {X = X} w M r q (at v) a b tree (Err Memory)
   unfolding passes_within
-  terms_stopped tree f = stopped M v a b tree
-      (passes_within (omega (arith, weight_parts_most r.store a, weight_parts_most r.store b)) f.passes) (front_binds f)
+  terms_stopped tree o f = stopped M v a b tree
+      (passes_within (omega (arith, weight_parts_most r.store a, weight_parts_most r.store b)) f.passes)
+      (forms_keep r.store q.store v a b o (one_so_far f.front))
+      (λ exact is pair. (
+        front_binds f exact is pair,
+        unified_inside r.store q.store a b (direct_parts a) (direct_parts b) (λ s. (terms_unify a b form o s).0)
+            ((f.exact exact is (term_looked_at a form) (parts_pair r.store a b pair)).1).keeps,
+      ))
       (λ ha hb. f.full (parts_plain a ha) (parts_plain b hb))
       (λ k ha hb. f.built k (built_parts k a ha) (built_parts k b hb))
 
@@ -162,12 +170,16 @@ module _ {Key Id Name : Type 0} {r q : State Key Id Name} (M : Manners) (v : Var
         IsFaultOfPart (named_place a i) e d → Refuses q p (part_at (items_in r) (head_of a) i v) x y e →
         RefusesAs w r p (at v) a b d
     term_refuses w {p = p} g Memory d t h =
-        subst (RefusesAs w r p (at v) a b) (sym (same_part_fault (named_place a i) Memory d t (λ e z. cc))) tt
+        subst (RefusesAs w r p (at v) a b) (sym (same_part_fault (named_place a i) Memory d t (λ e z. cc)))
+        (forms_keep r.store p.store v a b o
+        (fronted_keeps (head_of a) v i (direct_parts a) (direct_parts b) x y f lx ly ex ey p are h))
     term_refuses w {p = p} g Budget d t h =
         subst (RefusesAs w r p (at v) a b) (sym (same_part_fault (named_place a i) Budget d t (λ e z. cc))) (
           h.0,
           λ j ha hb. fronted_needs (head_of a) v i (direct_parts a) (direct_parts b) x y f lx ly ex ey h.1 j
               (built_parts j a ha) (built_parts j b hb),
+          forms_keep r.store p.store v a b o
+              (fronted_keeps (head_of a) v i (direct_parts a) (direct_parts b) x y f lx ly ex ey p are h.2),
         )
     term_refuses w {p = p} g (Unrelated e) d t h =
         let items : items_in p ≡ items_in r = same_items g ∙ same_items f.passes in

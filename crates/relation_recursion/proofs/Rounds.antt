@@ -18,7 +18,7 @@ use Rattle.relation_folds.specs.declared.error.RelateFault.TheVariants.{Memory, 
 use Rattle.relation_semantics.specs.Relation.{Items, at, second_opened, first_opened}
 use Rattle.relation_semantics.specs.Stores.{Store, IsSound, InContext, weight}
 use Rattle.relation_semantics.specs.Goals.{Goal}
-use Rattle.relation_semantics.specs.Outcomes.{Outcome, NeverOne}
+use Rattle.relation_semantics.specs.Outcomes.{Outcome, NeverOne, KeepsOne}
 use Rattle.relation_semantics.specs.Measures.{grown, depth, Goes}
 use Rattle.relation_semantics.specs.Steps.{HasNoBinder}
 use Rattle.relation_semantics.specs.Alphabets.{Alphabet, IsBuiltOf, StaysBuilt, MayBind}
@@ -33,7 +33,8 @@ use Rattle.relation_semantics.proofs.Going.{grown-mono, le_grown, depth-strict, 
 use Rattle.relation_semantics.proofs.Full.{first_order_plain, full_never}
 use Rattle.relation_semantics.proofs.Building.{built_led, built_then, needs_led}
 use Rattle.relation_semantics.proofs.Answering.{may_itself, same_items, same_settings}
-use Rattle.relation_semantics.proofs.Composing.{steps_compose, values_still}
+use Rattle.relation_semantics.proofs.Composing.{steps_compose, values_still, agree_through}
+use Rattle.relation_semantics.proofs.Keeping.{one_inside, one_led, one_of_all, one_outcome, one_then_all}
 use Rattle.relation_semantics.proofs.Opening.{two_rounds_relate}
 use Rattle.relation_semantics.proofs.Passing.{passes_then, manner_then, stopped, asked_later, outcome_seen}
 use Rattle.relation_terms.proofs.Paths.{kinds_path, bind_path}
@@ -190,6 +191,14 @@ pub data Begun (c : Items) (e : Tree) (v : Variance) (before after : Store) (ear
   by_half : {ks ls : List BoundKind} {t u : Tree} → (OneRound v a b → ⊥) → a ≡ bind ks t → b ≡ bind ls u →
       Outcome c e (second_opened ks ls v) before after earlier added t u → Begun c e v before after earlier added a b
 
+-- What made the binders one extends to what that recorded.
+begun_keeps : {c : Items} {e : Tree} {earlier added : List Goal} (v : Variance) (before after : Store) (a b : Tree) →
+    Begun c e v before after earlier added a b → KeepsOne (at v) before after a b
+begun_keeps v before after a b (wholly o f) = one_outcome f
+begun_keeps v before after a b (by_half {ks} {ls} {t} {u} two i j f) = subst₂ (KeepsOne (at v) before after) (sym i) (sym j)
+    (one_inside (at v) (second_opened ks ls v) before after (bind ks t) (bind ls u) t u
+    (λ s one. (kinds_path one, bind_path one)) (one_outcome f))
+
 -- The bodies of round 0 were related.
 pub record HalfDone {Key Id Name : Type 0} (M : Manners) (r p : State Key Id Name) (a b : Tree) : Type 0 where
   pub passes : Passes (weight r.store a + weight r.store b) r p
@@ -204,10 +213,10 @@ module _ {Key Id Name : Type 0} where
   pub opening_refused : {T X : Type 0} {r q : State Key Id Name} (M : Manners) (n : ℕ) (a b : Tree) (tree : T → Tree)
       (answer : X → Tree) → (HasNoBinder a → ⊥) → (f : RelateFault Key Id Name) → Opened M r q n a b tree (Err f) →
       Related {X = X} M r q r.ambient a b answer (Err f)
-  opening_refused {r = r} M n a b tree answer never Memory o =
-      stopped M r.ambient a b answer o.passes (λ k is pair. absurd (never (first_order_plain a pair.left)))
-      (full_never a b never) o.built
-  opening_refused M n a b tree answer never f o = absurd o.verdict
+  opening_refused {r = r} {q = q} M n a b tree answer never Memory o =
+      stopped M r.ambient a b answer o.passes (one_of_all (at r.ambient) r.store q.store a b (o.verdict).1)
+      (λ k is pair. absurd (never (first_order_plain a pair.left))) (full_never a b never) o.built
+  opening_refused M n a b tree answer never f o = absurd (o.verdict).0
 
   -- The bodies of a round weigh less.
   round_small : {m : ℕ} {r q : State Key Id Name} (M : Manners) (n : ℕ) (a b x y : Tree) (g : Passes m r q) →
@@ -230,6 +239,17 @@ module _ {Key Id Name : Type 0} where
       q.store q.store r.goals added [] t u x y f).1 n w s sat (kinds_path one, bind_path one))
   round_never added a b x y (second_round e o i j f) n = absurd (omega (arith, e))
 
+  -- What made the binders one extends to what a fault of the bodies left.
+  round_keeps : {r q : State Key Id Name} (p : State Key Id Name) (added : List Goal) (a b x y : Tree) →
+      RoundSteps r q added 0 a b x y → KeepsOne (at r.ambient) q.store p.store x y →
+      KeepsOne (at r.ambient) r.store p.store a b
+  round_keeps p added a b x y (one_round e o f) k = one_led p.store f k
+  round_keeps {r} p added a b x y (first_round {ks} {ls} {t} {u} e o i j f) k =
+      subst₂ (KeepsOne (at r.ambient) r.store p.store) (sym i) (sym j)
+      (one_inside (at r.ambient) (second_opened ks ls r.ambient) r.store p.store (bind ks t) (bind ls u) t u
+      (λ s one. (kinds_path one, bind_path one)) (one_led p.store f k))
+  round_keeps p added a b x y (second_round e o i j f) k = absurd (omega (arith, e))
+
   round_refuses : {m : ℕ} {r q p : State Key Id Name} (M : Manners) (added : List Goal) (a b x y : Tree) →
       RoundLeads M r q added 0 a b x y → StaysBuilt r.store q.store added a b → Passes m q p → IsSound p.store →
       (e : RelateFault Key Id Name) → Refuses q p r.ambient x y e → Refuses r p r.ambient a b e
@@ -238,8 +258,9 @@ module _ {Key Id Name : Type 0} where
     l.errors p.meaning p.kept.settings (items_in p) p.store e (f.goes).later sound h.1,
     h.2,
   )
-  round_refuses M added a b x y l built f sound Budget h = (h.0, needs_led added a b x y built l.built h.1)
-  round_refuses M added a b x y l built f sound Memory h = tt
+  round_refuses {p = p} M added a b x y l built f sound Budget h =
+      (h.0, needs_led added a b x y built l.built h.1, round_keeps p added a b x y l.steps h.2)
+  round_refuses {p = p} M added a b x y l built f sound Memory h = round_keeps p added a b x y l.steps h
 
   -- The bodies of round 0 were refused, and so are the binders.
   pub first_refused : {X Y : Type 0} {r q p : State Key Id Name} (M : Manners) (a b x y : Tree) (tree : X → Tree)
@@ -316,11 +337,13 @@ module _ {Key Id Name : Type 0} where
       (tree : T → Tree) (answer : X → Tree) → (HasNoBinder a → ⊥) → HalfDone M r p a b → (f : RelateFault Key Id Name) →
       Opened M p q n a b tree (Err f) → Related {X = X} M r q r.ambient a b answer (Err f)
   unfolding passes_then
-  reopening_refused {r = r} M n a b tree answer never h Memory o =
+  reopening_refused {r = r} {p = p} {q = q} M n a b tree answer never h Memory o =
       stopped M r.ambient a b answer (passes_then h.passes o.passes h.room)
+      (one_then_all (at r.ambient) r.store p.store q.store a b ((h.passes).goes).later
+      (begun_keeps r.ambient r.store p.store a b h.begun) (o.verdict).1)
       (λ k is pair. absurd (never (first_order_plain a pair.left))) (full_never a b never)
       (built_then (h.passes).added (o.passes).added a b h.built o.built)
-  reopening_refused M n a b tree answer never h f o = absurd o.verdict
+  reopening_refused M n a b tree answer never h f o = absurd (o.verdict).0
 
   -- Nothing was left for round 1.
   pub nothing_left : {T X : Type 0} {r p q : State Key Id Name} (M : Manners) (n : ℕ) (a b : Tree) (tree : T → Tree)
@@ -390,6 +413,30 @@ module _ {Key Id Name : Type 0} where
                   (body_context r.store b ls u j' inb) (bind_path one),
             )
 
+    -- What made the binders one extends to what a fault of its bodies left.
+    second_keeps : (z : State Key Id Name) →
+        Begun (items_in r) r.kept.environment r.ambient r.store p.store r.goals (h.passes).added a b →
+        RoundSteps p q added 1 a b x y → KeepsOne (at p.ambient) q.store z.store x y →
+        KeepsOne (at r.ambient) r.store z.store a b
+    second_keeps z f (one_round e o s) k = absurd (omega (arith, e))
+    second_keeps z f (first_round e o i j s) k = absurd (omega (arith, e))
+    second_keeps z (wholly one f) (second_round e o i j s) k = absurd (not_wholly a b h one o)
+    second_keeps z (by_half {ks} {ls} {t} {u} two i' j' f) (second_round e o i j s) k =
+        subst₂ (KeepsOne (at r.ambient) r.store z.store) (sym i') (sym j') whole
+      where
+        then : KeepsOne (first_opened ks ls p.ambient) p.store z.store t u
+        then = one_led z.store (second_step p q added a b x y i j i' j' s) k
+
+        whole : KeepsOne (at r.ambient) r.store z.store (bind ks t) (bind ls u)
+        whole w s' sat one =
+            let half = f.keeps w s' sat (kinds_path one, bind_path one) in
+            let rest = then w half.0 half.2.0 (
+              kinds_path one,
+              values_still r.store s' half.0 t u half.1 (body_context r.store a ks t i' ina)
+                  (body_context r.store b ls u j' inb) (bind_path one),
+            ) in
+            (rest.0, agree_through f.later half.1 rest.1, rest.2)
+
     -- What relating its bodies did, after round 0.
     second_outcome : {m k : ℕ} {z : State Key Id Name} → (g : Passes m p q) → added ≡ g.added → (f : Passes k q z) →
         Begun (items_in r) r.kept.environment r.ambient r.store p.store r.goals (h.passes).added a b →
@@ -436,12 +483,13 @@ module _ {Key Id Name : Type 0} where
           (l.errors z.meaning z.kept.settings (items_in z) z.store e (f.goes).later sound c.1),
       c.2,
     )
-    second_refuses f sound Budget c = (
+    second_refuses {z = z} f sound Budget c = (
       c.0,
       needs_led (h.passes).added a b a b h.built (λ k ha hb all. (ha, hb))
           (needs_led g.added a b x y opened l.built c.1),
+      second_keeps a b x y left_context right_context h g.added z h.begun l.steps c.2,
     )
-    second_refuses f sound Memory c = tt
+    second_refuses {z = z} f sound Memory c = second_keeps a b x y left_context right_context h g.added z h.begun l.steps c
 
     second_built : {n : ℕ} {z : State Key Id Name} (f : Passes n q z) → StaysBuilt q.store z.store f.added x y →
         StaysBuilt r.store z.store ((h.passes).added ++ (g.added ++ f.added)) a b

@@ -41,7 +41,8 @@ use Rattle.relation_semantics.proofs.Registered.{registered_in}
 use Rattle.relation_semantics.proofs.Passing.{passes_within, passes_then, passes_nowhere, manner_then, stopped}
 use Rattle.relation_steps.proofs.Fronts.{Fronted, AreParts, fronted_never, fronted_all, fronted_passes, fronted_fault, fronted_exactly, fronted_full, fronted_built, fronted_needs}
 use Rattle.relation_semantics.proofs.Building.{built_itself, built_const_parts}
-use Rattle.relation_steps.proofs.Fronts.{fronted_agree}
+use Rattle.relation_steps.proofs.Fronts.{fronted_agree, fronted_keeps}
+use Rattle.relation_semantics.proofs.Keeping.{one_so_far, unified_inside}
 use Rattle.relation_semantics.proofs.Agreeing.{agree_same, agree_flexible}
 use Rattle.relation_semantics.specs.Agreeing.{IsFlexible}
 use Rattle.relation_semantics.proofs.AgreeingForms.{const_agrees}
@@ -49,7 +50,7 @@ use Rattle.relation_semantics.proofs.Full.{full_itself, const_parts_plain}
 use Rattle.relation_recursion.proofs.Unifying.{first_order_const_parts, const_looked_at, consts_unify, answered_as, refused_as}
 use Rattle.relation_semantics.proofs.Roots.{exact_itself}
 use Rattle.relation_recursion.proofs.Unifying.{forms_not_unified, const_forms_not_unified, erased_sort}
-use Rattle.relation_recursion.proofs.StructuralTys.{same_const_fault, consts_never}
+use Rattle.relation_recursion.proofs.StructuralTys.{same_const_fault, consts_never, consts_keep}
 use Rattle.relation_semantics.proofs.OneParts.{const_parts_equal, sort_is}
 use Rattle.relation_recursion.proofs.Compared.{form_apart, const_form_apart, known_error, known_const_error, formed_not_bindable, formed_consts_not_bindable}
 use Rattle.part_variances.proofs.Handed.{const_fault_known, AreOfTwoKinds, AtTop, at_top, value_top}
@@ -162,12 +163,16 @@ module _ {Key Id Name : Type 0} {r q : State Key Id Name} (M : Manners) (v : Var
         (p.meaning).const_ d ≡ b → IsTrue (known a) → IsTrue (known b) → IsFaultOfConst a c d e k →
         Refuses q p (part_at (items_in r) (const_head_of a) i v) x y e → RefusesAs as_forms r p (at v) a b k
     const_refuses {p = p} g Memory k ec ed ka kb t h =
-        subst (RefusesAs as_forms r p (at v) a b) (sym (same_const_fault a c d Memory k t (λ e z. cc))) tt
+        subst (RefusesAs as_forms r p (at v) a b) (sym (same_const_fault a c d Memory k t (λ e z. cc)))
+        (consts_keep r.store p.store v a b o
+        (fronted_keeps (const_head_of a) v i (const_parts_of a) (const_parts_of b) x y f lx ly ex ey p are h))
     const_refuses {p = p} g Budget k ec ed ka kb t h =
         subst (RefusesAs as_forms r p (at v) a b) (sym (same_const_fault a c d Budget k t (λ e z. cc))) (
           h.0,
           λ j ha hb. fronted_needs (const_head_of a) v i (const_parts_of a) (const_parts_of b) x y f lx ly ex ey h.1 j
               (built_const_parts j a ha) (built_const_parts j b hb),
+          consts_keep r.store p.store v a b o
+              (fronted_keeps (const_head_of a) v i (const_parts_of a) (const_parts_of b) x y f lx ly ex ey p are h.2),
         )
     const_refuses {p = p} g (Unrelated e) k ec ed ka kb t h =
         let same : items_in p ≡ items_in r = same_items g ∙ same_items f.passes in
@@ -224,16 +229,20 @@ module _ {Key Id Name : Type 0} {r q : State Key Id Name} (M : Manners) (v : Var
     }
 
   -- Memory ran out after some of the parts.
-  pub consts_stopped : {X : Type 0} (tree : X → Tree) →
+  pub consts_stopped : {X : Type 0} (tree : X → Tree) → IsFormedConst a → IsFormedConst b → AreOfOneConst a b →
       Fronted M r q (const_head_of a) v i (const_parts_of a) (const_parts_of b) →
       RelatedForms {X = X} M r q v a b tree (Err Memory)
   unfolding passes_within
-  consts_stopped tree f = stopped M v a b tree
+  consts_stopped tree fa fb o f = stopped M v a b tree
       (passes_within (omega (arith, weight_const_parts_most r.store a, weight_const_parts_most r.store b)) f.passes)
-      (λ exact is pair. binds_as r.store q.store a b (const_parts_of a) (const_parts_of b)
-      (λ u. leaves_const_parts (NamesTypesTo u) a) (λ u. leaves_const_parts (NamesTypesTo u) b)
-      (keeps_binds r.store q.store (const_parts_of a) (const_parts_of b)
-      (f.exact exact is (const_looked_at a) (const_parts_pair r.store a b pair)).2))
+      (consts_keep r.store q.store v a b o (one_so_far f.front))
+      (λ exact is pair. let z = f.exact exact is (const_looked_at a) (const_parts_pair r.store a b pair) in (
+        binds_as r.store q.store a b (const_parts_of a) (const_parts_of b)
+            (λ u. leaves_const_parts (NamesTypesTo u) a) (λ u. leaves_const_parts (NamesTypesTo u) b)
+            (keeps_binds r.store q.store (const_parts_of a) (const_parts_of b) z.2),
+        unified_inside r.store q.store a b (const_parts_of a) (const_parts_of b)
+            (λ s. (consts_unify a b fa fb o s).0) (z.1).keeps,
+      ))
       (λ ha hb. f.full (const_parts_plain a ha) (const_parts_plain b hb))
       (λ k ha hb. f.built k (built_const_parts k a ha) (built_const_parts k b hb))
 

@@ -17,7 +17,7 @@ use Rattle.relation_folds.specs.Faults.{KnowsFault}
 use Rattle.relation_semantics.specs.Relation.{Items, Interpretation, at, parts, part_at, Rel, same, atoms, forms, sort_of}
 use Rattle.relation_semantics.specs.Stores.{Store, Satisfies}
 use Rattle.relation_semantics.specs.Goals.{Holds}
-use Rattle.relation_semantics.specs.Outcomes.{NeverOne}
+use Rattle.relation_semantics.specs.Outcomes.{NeverOne, KeepsOne}
 use Rattle.relation_semantics.specs.Settings.{Settings}
 use Rattle.relation_semantics.specs.Errors.{ErrorOf, ErrorByForms, as_forms, IsHandedOn, of_parts, of_alias_parts, of_length}
 use Rattle.relation_semantics.specs.Errors.{AreOfOneForm, over_parts, over_aliases, one_leaf, parameters}
@@ -32,7 +32,8 @@ use Rattle.relation_semantics.proofs.RecordingForms.{bare_parts, form_asks, asks
 use Rattle.relation_semantics.proofs.Passing.{passes_within, passes_then, manner_then, stopped}
 use Rattle.relation_steps.proofs.Fronts.{Fronted, AreParts, fronted_never, fronted_all, fronted_passes, fronted_fault, fronted_exactly, fronted_full, fronted_built, fronted_needs}
 use Rattle.relation_semantics.proofs.Building.{built_parts}
-use Rattle.relation_steps.proofs.Fronts.{fronted_agree}
+use Rattle.relation_steps.proofs.Fronts.{fronted_agree, fronted_keeps}
+use Rattle.relation_semantics.proofs.Keeping.{one_inside, one_so_far, unified_inside}
 use Rattle.relation_semantics.proofs.AgreeingForms.{form_agrees}
 use Rattle.relation_semantics.proofs.Full.{parts_plain}
 use Rattle.relation_recursion.proofs.Unifying.{first_order_parts, formed_looked_at, types_unify, answered_as, refused_as}
@@ -161,6 +162,18 @@ pub consts_never : (st : Store) (v : Variance) (a b : Tree) → AreOfOneConst a 
     NeverOne (parts (const_head_of a) 0 v) st (const_parts_of a) (const_parts_of b) → NeverOne (at v) st a b
 consts_never st v a b o n w s sat q = n w s sat (const_parts_equal a b o s q)
 
+-- What made the parts one made the forms one.
+pub forms_keep : (before after : Store) (v : Variance) (a b : Tree) → AreOfOneForm a b →
+    KeepsOne (parts (head_of a) 0 v) before after (direct_parts a) (direct_parts b) → KeepsOne (at v) before after a b
+forms_keep before after v a b o k = one_inside (at v) (parts (head_of a) 0 v) before after a b (direct_parts a)
+    (direct_parts b) (parts_equal a b o) k
+
+pub consts_keep : (before after : Store) (v : Variance) (a b : Tree) → AreOfOneConst a b →
+    KeepsOne (parts (const_head_of a) 0 v) before after (const_parts_of a) (const_parts_of b) →
+    KeepsOne (at v) before after a b
+consts_keep before after v a b o k = one_inside (at v) (parts (const_head_of a) 0 v) before after a b (const_parts_of a)
+    (const_parts_of b) (const_parts_equal a b o) k
+
 module _ {Key Id Name : Type 0} {r q : State Key Id Name} (M : Manners) (v : Variance) (a b : Tree) (i : ℕ) where
   -- Two parts of two types were refused, and so are the types.
   module _ (is_formed : IsFormed a) (o : AreOfOneForm a b) (f : Fronted M r q (head_of a) v i (direct_parts a) (direct_parts b))
@@ -173,12 +186,16 @@ module _ {Key Id Name : Type 0} {r q : State Key Id Name} (M : Manners) (v : Var
         Refuses q p (part_at (items_in r) (head_of a) i v) (arg_tree q.meaning X) (arg_tree q.meaning Y) e →
         RefusesAs as_forms r p (at v) a b k
     ty_refuses {p = p} g Memory k kx ky t h =
-        subst (RefusesAs as_forms r p (at v) a b) (sym (same_fault a X Y Memory k t (λ e z. cc))) tt
+        subst (RefusesAs as_forms r p (at v) a b) (sym (same_fault a X Y Memory k t (λ e z. cc)))
+        (forms_keep r.store p.store v a b o (fronted_keeps (head_of a) v i (direct_parts a) (direct_parts b)
+        (arg_tree q.meaning X) (arg_tree q.meaning Y) f lx ly ex ey p are h))
     ty_refuses {p = p} g Budget k kx ky t h =
         subst (RefusesAs as_forms r p (at v) a b) (sym (same_fault a X Y Budget k t (λ e z. cc))) (
           h.0,
           λ j ha hb. fronted_needs (head_of a) v i (direct_parts a) (direct_parts b) (arg_tree q.meaning X)
               (arg_tree q.meaning Y) f lx ly ex ey h.1 j (built_parts j a ha) (built_parts j b hb),
+          forms_keep r.store p.store v a b o (fronted_keeps (head_of a) v i (direct_parts a) (direct_parts b)
+              (arg_tree q.meaning X) (arg_tree q.meaning Y) f lx ly ex ey p are h.2),
         )
     ty_refuses {p = p} g (Unrelated e) k kx ky t h =
         let same : items_in p ≡ items_in r = same_items g ∙ same_items f.passes in
@@ -237,14 +254,18 @@ module _ {Key Id Name : Type 0} {r q : State Key Id Name} (M : Manners) (v : Var
     }
 
   -- Memory ran out after some of the parts.
-  pub types_stopped : {X : Type 0} (tree : X → Tree) → IsFormed a →
+  pub types_stopped : {X : Type 0} (tree : X → Tree) → IsFormed a → IsFormed b → AreOfOneForm a b →
       Fronted M r q (head_of a) v i (direct_parts a) (direct_parts b) → RelatedForms {X = X} M r q v a b tree (Err Memory)
   unfolding passes_within
-  types_stopped tree is_formed f = stopped M v a b tree
+  types_stopped tree is_formed is_formed' o f = stopped M v a b tree
       (passes_within (omega (arith, weight_parts_most r.store a, weight_parts_most r.store b)) f.passes)
-      (λ exact is pair. binds_as r.store q.store a b (direct_parts a) (direct_parts b) (λ u. leaves_parts (NamesTypesTo u) a)
-      (λ u. leaves_parts (NamesTypesTo u) b) (keeps_binds r.store q.store (direct_parts a) (direct_parts b)
-      (f.exact exact is (formed_looked_at a is_formed) (parts_pair r.store a b pair)).2))
+      (forms_keep r.store q.store v a b o (one_so_far f.front))
+      (λ exact is pair. let z = f.exact exact is (formed_looked_at a is_formed) (parts_pair r.store a b pair) in (
+        binds_as r.store q.store a b (direct_parts a) (direct_parts b) (λ u. leaves_parts (NamesTypesTo u) a)
+            (λ u. leaves_parts (NamesTypesTo u) b) (keeps_binds r.store q.store (direct_parts a) (direct_parts b) z.2),
+        unified_inside r.store q.store a b (direct_parts a) (direct_parts b)
+            (λ s. (types_unify a b is_formed is_formed' (λ i. alias_not_first a i pair.left) o s).0) (z.1).keeps,
+      ))
       (λ ha hb. f.full (parts_plain a ha) (parts_plain b hb))
       (λ k ha hb. f.built k (built_parts k a ha) (built_parts k b hb))
 

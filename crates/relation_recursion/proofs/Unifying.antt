@@ -24,6 +24,7 @@ use Rattle.relation_semantics.specs.Outcomes.{Exact}
 use Rattle.relation_semantics.specs.Parts.{IsFormed, IsFormedConst, direct_parts, const_parts_of, head_of, const_head_of, branches_of}
 use Rattle.relation_semantics.proofs.Erased.{forms_unify_by_parts}
 use Rattle.relation_steps.proofs.Fronts.{IsLookedAt}
+use Rattle.relation_semantics.proofs.Keeping.{unified_inside}
 use Rattle.relation_folds.specs.declared.error.RelateFault.{RelateFault}
 use Rattle.relation_folds.specs.declared.error.RelateFault.TheVariants.{Memory, Budget, Unrelated}
 use Rattle.relation_semantics.specs.Lawful.{ExactResult}
@@ -361,8 +362,10 @@ pub refused_by : {Key Id Name : Type 0} (before after : Store) (a b xs ys : Tree
     ExactResult {X = A} before after xs ys (Err e) → ExactResult {X = B} before after a b (Err e)
 refused_by before after a b xs ys inside left right A B (Unrelated e) z =
     ((λ s sol one. z.0 s sol (inside s one)), binds_as before after a b xs ys left right z.1)
-refused_by before after a b xs ys inside left right A B Budget z = fewer_as before after a b xs ys left right z
-refused_by before after a b xs ys inside left right A B Memory z = binds_as before after a b xs ys left right z
+refused_by before after a b xs ys inside left right A B Budget z =
+    (fewer_as before after a b xs ys left right z.0, unified_inside before after a b xs ys inside z.1)
+refused_by before after a b xs ys inside left right A B Memory z =
+    (binds_as before after a b xs ys left right z.0, unified_inside before after a b xs ys inside z.1)
 
 -- So is what a result says, where the parts stand in one universe where the whole does.
 module _ (before after : Store) (a b xs ys : Tree) (same : (s : Assign) → Unifies s a b ↔ Unifies s xs ys)

@@ -28,7 +28,7 @@ use Rattle.relation_semantics.proofs.Exactness.{entry_is_exact, erased_through}
 use Rattle.relation_semantics.proofs.Going.{later_through, goes_then, goes_within, le_grown}
 use Rattle.relation_semantics.proofs.StoreCalls.{resolved_in, resolved_unifies}
 use Rattle.relation_semantics.proofs.Instantiating.{stands_resolved, resolved_first_order}
-use Rattle.relation_semantics.proofs.NewVariables.{Adds, adds, adds_goes, IsValueFor, satisfies_after, assigns_after, erased_after, erased_agrees}
+use Rattle.relation_semantics.proofs.NewVariables.{Adds, adds, adds_goes, either_of, IsValueFor, satisfies_after, assigns_after, erased_after, erased_agrees}
 use Rattle.relation_semantics.proofs.GeneralisingOnce.{first_or_later}
 use Rattle.relation_semantics.proofs.Leafwise.{IsOne, StandsIn, each_stands, one_of_all, replaced_leaves, absent_of_leaves, KeepsSort, within_back, fits_back, size_back, tamed, tamed_fits, tamed_values, tamed_named, tamed_within, tamed_erased, erased_named}
 use Rattle.relation_semantics.proofs.Generalising.{gives_sort, LeadsBack, IsBoundLeaf, IsSourceLeaf, ReplacedLeaf, Replaced, replaced_leaf, replaced_alias, Came, came_from_start}
@@ -167,11 +167,6 @@ first_order_lacks (node h ts) f = (no_alias_head h f.0, first_order_lacks ts f.3
 first_order_lacks (bind ks t) f = absurd f
 first_order_lacks nil f = tt
 first_order_lacks (cons t ts) f = (first_order_lacks t f.0, first_order_lacks ts f.1)
-
--- One of two trees.
-either_of : {A : Type 0} → Dec A → Tree → Tree → Tree
-either_of (yes h) x y = x
-either_of (no o) x y = y
 
 module _ (al : StructurallyRelateAliases) (c : Items) (before after : Store) (v : Variance) (k : VarKind) (n : ℕ) (source term : Tree) (kind : IsTypeOrConst k) (f : InstantiatesBy al c before after v k n source term)
     (numbers : NumbersNameNothing before) (g : IsSound before) (is_in : IsTermIn before source) (stands : MayStandFor k source) where

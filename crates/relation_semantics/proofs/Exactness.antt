@@ -80,7 +80,7 @@ erased_nth i (leaf x) l = absurd l
 erased_nth i (node h ts) l = absurd l
 erased_nth i (bind ks t) l = absurd l
 
-unified_parts : (s : Assign) (i : ℕ) (xs ys : Tree) → IsList xs → IsList ys → Unifies s xs ys → Unifies s (nth i xs) (nth i ys)
+pub unified_parts : (s : Assign) (i : ℕ) (xs ys : Tree) → IsList xs → IsList ys → Unifies s xs ys → Unifies s (nth i xs) (nth i ys)
 unified_parts s i xs ys l m q = part xs l ∙ ap (nth i) q ∙ sym (part ys m)
   where
     part : (t : Tree) → IsList t → erase (apply s (nth i t)) ≡ nth i (erase (apply s t))

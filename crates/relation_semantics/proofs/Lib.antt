@@ -18,6 +18,7 @@ pub mod Erased
 pub mod Composing
 pub mod Opening
 pub mod Exactness
+pub mod Keeping
 pub mod Going
 pub mod Full
 pub mod Building

@@ -123,6 +123,11 @@ constraint_agrees w st s s' agree (equal_constraint a b) i h = (
   subst₂ (Outlives w) (same_value st s s' b agree (term_context st b i.1.1)) (same_value st s s' a agree (term_context st a i.0.1)) h.1,
 )
 
+-- One of two trees.
+unfoldable pub either_of : {A : Type 0} → Dec A → Tree → Tree → Tree
+either_of (yes h) x y = x
+either_of (no o) x y = y
+
 -- A value that a variable of a kind may have in a universe.
 abbrev pub IsValueFor : VarKind → ℕ → Tree → Type 0
 IsValueFor k u t = MayStandFor k t × Leaves IsValueLeaf t × StaysWithin 0 t × Leaves (IsNamable u) t

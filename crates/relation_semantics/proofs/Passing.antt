@@ -22,7 +22,7 @@ use Rattle.relation_semantics.specs.Recording.{AreBare}
 use Rattle.relation_semantics.specs.Agreeing.{Agree}
 use Rattle.relation_semantics.specs.Stores.{Store, IsSound, Satisfies, all_bound, weight}
 use Rattle.relation_semantics.specs.Goals.{Goal, GoalInContext, IsDirected, Holds, Relates, Request, asked, asks_too_much, asks_nothing, IsQuiet, AsksNoPair, HasOneTree, MakesOneTree}
-use Rattle.relation_semantics.specs.Outcomes.{Outcome, CarriesOver, NeverOne, Exact, ExactStep}
+use Rattle.relation_semantics.specs.Outcomes.{Outcome, CarriesOver, NeverOne, Exact, ExactStep, KeepsOne, KeepsUnified}
 use Rattle.relation_semantics.specs.Headline.{IsFirstOrderPair}
 use Rattle.relation_semantics.specs.FirstOrder.{IsFirstOrderStore, IsErasedSolution}
 use Rattle.relation_semantics.specs.Steps.{IsLater, StaysFullFor}
@@ -36,6 +36,7 @@ use Rattle.relation_semantics.proofs.Recording.{bare_no_alias, stands_itself, tu
 use Rattle.relation_semantics.proofs.Recording.{records_as, records_then, records_between, records_remembering}
 use Rattle.relation_semantics.specs.Lawful.{ExactResult, ExactlyRelated, RegisteredIn}
 use Rattle.relation_semantics.proofs.Exactness.{exact_steps_compose}
+use Rattle.relation_semantics.proofs.Keeping.{one_outcome, one_led, unified_led}
 use Rattle.relation_semantics.specs.Lawful.{LeadsToParts, LeadsAgain, Shown, Noted, Turned, Stepped, OnlyMemory, WithMeaning, declared_by, items_of, items_in}
 use Rattle.relation_semantics.proofs.Registered.{registered_in, registered_both, registered_as}
 use Rattle.relation_semantics.proofs.Going.{goes_nowhere, goes_within, goes_then, le_grown, later_itself, later_through}
@@ -166,8 +167,9 @@ module _ {Key Id Name : Type 0} where
     l.errors p.meaning p.kept.settings (items_in p) p.store e (f.goes).later sound h.1,
     h.2,
   )
-  led_refuses g f sound a b x y v l built from Budget h = (h.0, needs_led g.added a b x y built from h.1)
-  led_refuses g f sound a b x y v l built from Memory h = tt
+  led_refuses {p = p} g f sound a b x y v l built from Budget h =
+      (h.0, needs_led g.added a b x y built from h.1, one_led p.store l.steps h.2)
+  led_refuses {p = p} g f sound a b x y v l built from Memory h = one_led p.store l.steps h
 
   -- A step led exactly to another pair, and what comes of that.
   abbrev pub LeadsExactly : Manners → State Key Id Name → State Key Id Name → Tree → Tree → Tree → Tree → Type 0
@@ -191,9 +193,13 @@ module _ {Key Id Name : Type 0} where
       let o = f k (also is) l.0 in
       ((exact_steps_compose before middle after a b x y l.1).1 o.0, led_binds before middle after a b x y l.2 o.1)
   exact_led M before middle after a b x y v w also led (Err Budget) f k is pair =
-      let l = led k is pair in led_fewer before middle after a b x y l.2 (f k (also is) l.0)
+      let l = led k is pair in
+      let o = f k (also is) l.0 in
+      (led_fewer before middle after a b x y l.2 o.0, unified_led after l.1 o.1)
   exact_led M before middle after a b x y v w also led (Err Memory) f k is pair =
-      let l = led k is pair in led_binds before middle after a b x y l.2 (f k (also is) l.0)
+      let l = led k is pair in
+      let o = f k (also is) l.0 in
+      (led_binds before middle after a b x y l.2 o.0, unified_led after l.1 o.1)
 
   -- A fault, of whatever was to be answered.
   exact_fault : (X Y : Type 0) (before after : Store) (a b : Tree) (e : RelateFault Key Id Name) →
@@ -203,7 +209,8 @@ module _ {Key Id Name : Type 0} where
   exact_fault X Y before after a b Memory f = f
 
   memory_said : (X Y : Type 0) (before after : Store) (a b : Tree) (e : RelateFault Key Id Name) →
-      OnlyMemory {X = Y} (Err e) → BindsNoMore before after a b → ExactResult {X = X} before after a b (Err e)
+      OnlyMemory {X = Y} (Err e) → BindsNoMore before after a b × KeepsUnified before after a b →
+      ExactResult {X = X} before after a b (Err e)
   memory_said X Y before after a b Memory k f = f
   memory_said X Y before after a b e k f = absurd k
 
@@ -238,7 +245,7 @@ module _ {Key Id Name : Type 0} where
       (e : RelateFault Key Id Name) → RefusesAs as_forms r q (at v) a b e → Refuses r q v a b e
   met_refuses r q v a b n (Unrelated e) h = (h.0, by_forms n h.1, h.2)
   met_refuses r q v a b n Budget h = h
-  met_refuses r q v a b n Memory h = tt
+  met_refuses r q v a b n Memory h = h
 
   pub forms_met : {X : Type 0} {r q : State Key Id Name} (M : Manners) (v : Variance) (a b : Tree) (tree : X → Tree)
       (result : Result X (RelateFault Key Id Name)) → (IsDeferred r.kept.settings a b → ⊥) →
@@ -486,16 +493,18 @@ module _ {Key Id Name : Type 0} where
     noted_refused {Z} answer e n = record {
       passes = both;
       verdict = refuses e (subst OnlyMemory n h.fault);
-      exact = λ k is pair. memory_said Z Y r.store p.store a b e (subst OnlyMemory n h.fault)
-          (binds_as_many r.store q.store p.store a b (noted_bound h)
-          (keeps_binds r.store q.store a b (f.exact k is pair).2));
+      exact = λ k is pair. memory_said Z Y r.store p.store a b e (subst OnlyMemory n h.fault) (
+        binds_as_many r.store q.store p.store a b (noted_bound h)
+            (keeps_binds r.store q.store a b (f.exact k is pair).2),
+        subst (λ s. KeepsUnified r.store s a b) (sym h.store) ((f.exact k is pair).1).keeps,
+      );
       full = λ ha hb. full_then (f.full ha hb) (full_same h.store);
       built = noted_built;
       records = tt;
     }
       where
         refuses : (e : RelateFault Key Id Name) → OnlyMemory {X = Y} (Err e) → RefusesAs w r p (at v) a b e
-        refuses Memory k = tt
+        refuses Memory k = one_outcome outcome
         refuses e k = absurd k
 
   -- Another ambient variance, and the old one again.
@@ -521,9 +530,12 @@ module _ {Key Id Name : Type 0} where
           (subst₂ (λ m s. ErrorOf m q.kept.settings (items_of m) s v e a b) (sym back.meaning) (sym back.store) h.1),
       subst (λ m. KnowsError m e) (sym back.meaning) h.2,
     )
-    turned_refuses Budget h =
-        (ap (λ s. s.budget) back.store ∙ h.0, subst (λ s. NeedsVariable s a b) there.store h.1)
-    turned_refuses Memory h = tt
+    turned_refuses Budget h = (
+      ap (λ s. s.budget) back.store ∙ h.0,
+      subst (λ s. NeedsVariable s a b) there.store h.1,
+      subst₂ (λ s z. KeepsOne (at v) s z a b) there.store (sym back.store) h.2,
+    )
+    turned_refuses Memory h = subst₂ (λ s z. KeepsOne (at v) s z a b) there.store (sym back.store) h
 
     turned_answers : (added : List Goal) (z : Tree) → Answers M t q added v a b z → Answers M r u added v a b z
     turned_answers added z h = record {
@@ -669,9 +681,9 @@ module _ {Key Id Name : Type 0} where
     made_or_not tree t f (Ok z) only h = remade tree t f z h.0 h.1
     made_or_not tree t f (Err Memory) only h = record {
       passes = passes_grown f.passes e w;
-      verdict = tt;
-      exact = λ k is pair. subst (λ s. BindsNoMore r.store s a b) (sym w.store)
-          (keeps_binds r.store q.store a b (f.exact k is pair).2);
+      verdict = subst (λ s. KeepsOne (at v) r.store s a b) (sym w.store) (one_outcome (f.verdict).outcome);
+      exact = λ k is pair. subst (λ s. BindsNoMore r.store s a b × KeepsUnified r.store s a b) (sym w.store)
+          (keeps_binds r.store q.store a b (f.exact k is pair).2, ((f.exact k is pair).1).keeps);
       full = subst (λ s. StaysFullFor r.store s a b) (sym w.store) f.full;
       built = subst (λ s. StaysBuilt r.store s (f.passes).added a b) (sym w.store) f.built;
       records = tt;
@@ -690,10 +702,11 @@ module _ {Key Id Name : Type 0} where
 
   -- Memory ran out.
   pub stopped : {X : Type 0} {w : Meeting} {r q : State Key Id Name} (M : Manners) (v : Variance) (a b : Tree) (tree : X → Tree) →
-      (g : Passes (weight r.store a + weight r.store b) r q) → ((M r.kept.settings).is_exact → v ≡ Invariant →
-      IsFirstOrderPair r.store a b → BindsNoMore r.store q.store a b) → StaysFullFor r.store q.store a b →
+      (g : Passes (weight r.store a + weight r.store b) r q) → KeepsOne (at v) r.store q.store a b →
+      ((M r.kept.settings).is_exact → v ≡ Invariant → IsFirstOrderPair r.store a b →
+      BindsNoMore r.store q.store a b × KeepsUnified r.store q.store a b) → StaysFullFor r.store q.store a b →
       StaysBuilt r.store q.store g.added a b → RelatedAs {X = X} w M r q (at v) a b tree (Err Memory)
-  stopped M v a b tree g f h d = record { passes = g; verdict = tt; exact = f; full = h; built = d; records = tt }
+  stopped M v a b tree g k f h d = record { passes = g; verdict = k; exact = f; full = h; built = d; records = tt }
 
   -- A step that answers.
   pub step_done : {K : Type 0} {r q : State Key Id Name} (M : Manners) (F : Tree → Type 0) (a b : Tree) (tree : K → Tree)

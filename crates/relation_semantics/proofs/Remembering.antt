@@ -18,7 +18,7 @@ use Rattle.relation_semantics.specs.Agreeing.{Agree}
 use Rattle.relation_semantics.specs.Alphabets.{IsGoalOf, StaysBuilt}
 use Rattle.relation_semantics.specs.Measures.{Goes}
 use Rattle.relation_semantics.specs.OneUniverse.{BindsNoMore, KeepsUniverseOf}
-use Rattle.relation_semantics.specs.Outcomes.{Exact, Outcome}
+use Rattle.relation_semantics.specs.Outcomes.{Exact, Outcome, KeepsOne, KeepsUnified}
 use Rattle.relation_semantics.specs.Settings.{Settings}
 use Rattle.relation_semantics.specs.Steps.{IsLater, StaysFullFor}
 use Rattle.relation_semantics.specs.Stores.{Store}
@@ -30,6 +30,7 @@ use Rattle.relation_semantics.proofs.Full.{full_itself}
 use Rattle.relation_semantics.proofs.Going.{later_itself}
 use Rattle.relation_semantics.proofs.Growing.{All_front}
 use Rattle.relation_semantics.proofs.OneUniverse.{keeps_itself, keeps_pair, keeps_binds}
+use Rattle.relation_semantics.proofs.Keeping.{one_outcome}
 use Rattle.relation_semantics.proofs.Passing.{passes_nowhere, same_manner}
 use Rattle.relation_semantics.proofs.Shrinking.{first_order_before, solved_before}
 
@@ -194,9 +195,9 @@ module _ {Key Id Name A E : Type 0} {r q s : State Key Id Name} {p : Pair Key} {
     unfolding passes_remembering
     step_not_remembered = record {
       passes = passes_remembering step.passes;
-      verdict = tt;
-      exact = λ k is pair. subst (λ st. BindsNoMore r.store st a b) (sym h.store)
-          (keeps_binds r.store q.store a b (step.exact k is pair).2);
+      verdict = subst (λ st. KeepsOne (at r.ambient) r.store st a b) (sym h.store) (one_outcome (step.verdict).outcome);
+      exact = λ k is pair. subst (λ st. BindsNoMore r.store st a b × KeepsUnified r.store st a b) (sym h.store)
+          (keeps_binds r.store q.store a b (step.exact k is pair).2, ((step.exact k is pair).1).keeps);
       full = subst (λ st. StaysFullFor r.store st a b) (sym h.store) step.full;
       built = subst (λ st. StaysBuilt r.store st (step.passes).added a b) (sym h.store) step.built;
     }

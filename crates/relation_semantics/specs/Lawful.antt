@@ -50,6 +50,7 @@ use Rattle.relation_semantics.specs.Settings.{Settings}
 use Rattle.relation_semantics.specs.Steps.{IsLater, InstantiatesNone, StaysFullFor}
 use Rattle.relation_semantics.specs.Alphabets.{Alphabet, IsBuiltOf, BindsBuiltOf, IsGoalOf, StaysBuilt, BuiltFrom, NeedsVariable}
 use Rattle.relation_semantics.specs.Outcomes.{Outcome, StepsTo, CarriesOver, NeverOne, Exact, ExactStep, NoUnifier}
+use Rattle.relation_semantics.specs.Outcomes.{KeepsOne, KeepsUnified}
 use Rattle.relation_semantics.specs.Headline.{IsFirstOrderPair}
 use Rattle.relation_semantics.specs.OneUniverse.{KeepsUniverseOf, LeadsInUniverse, BindsNoMore, BindsFewer}
 use Rattle.relation_semantics.specs.FirstOrder.{IsFirstOrderStore, Unifies, IsErasedSolution}
@@ -210,13 +211,13 @@ module _ {Key Id Name : Type 0} where
 
   -- What a fault says of two terms at a variance: a type error that no assignment makes them one, and which error it
   -- is, over known terms; a spent budget that nothing is left of it, and that a variable but of a region stands in one
-  -- of them; want of memory nothing.
+  -- of them; and that and want of memory that no equal pair is lost.
   abbrev pub RefusesAs : Meeting → State Key Id Name → State Key Id Name → Way → Tree → Tree → RelateFault Key Id Name →
       Type 0
   RefusesAs x r q way a b (Unrelated e) = NeverOne way r.store a b ×
       ErrorAs q.meaning x q.kept.settings (items_in q) q.store (seen_at way) e a b × KnowsError q.meaning e
-  RefusesAs x r q way a b Budget = ((q.store).budget ≡ 0) × NeedsVariable r.store a b
-  RefusesAs x r q way a b Memory = Unit {0}
+  RefusesAs x r q way a b Budget = ((q.store).budget ≡ 0) × NeedsVariable r.store a b × KeepsOne way r.store q.store a b
+  RefusesAs x r q way a b Memory = KeepsOne way r.store q.store a b
 
   -- The same of a pair that is met, and of two terms at a variance.
   abbrev pub RefusesBy : State Key Id Name → State Key Id Name → Way → Tree → Tree → RelateFault Key Id Name → Type 0
@@ -255,13 +256,13 @@ module _ {Key Id Name : Type 0} where
 
   -- What a result says besides where the relation promises to be exact, of first-order terms and records at
   -- invariance: the record stays first-order, and up to erasure just the solutions that unify the terms stay; a type
-  -- error says that there was none. What stood in one universe does so still, and however it ends no more variables are
-  -- bound than there were, and one is unresolved where nothing was left of the budget.
+  -- error says that there was none, and another fault loses none. What stood in one universe does so still, and however
+  -- it ends no more variables are bound than there were, and one is unresolved where nothing was left of the budget.
   abbrev pub ExactResult : {X : Type 0} → Store → Store → Tree → Tree → Result X (RelateFault Key Id Name) → Type 0
   ExactResult before after a b (Ok x) = IsFirstOrderStore after × Exact before after a b × KeepsUniverseOf before after a b
   ExactResult before after a b (Err (Unrelated e)) = NoUnifier before a b × BindsNoMore before after a b
-  ExactResult before after a b (Err Budget) = BindsFewer before after a b
-  ExactResult before after a b (Err Memory) = BindsNoMore before after a b
+  ExactResult before after a b (Err Budget) = BindsFewer before after a b × KeepsUnified before after a b
+  ExactResult before after a b (Err Memory) = BindsNoMore before after a b × KeepsUnified before after a b
 
   abbrev pub ExactlyRelated : {X : Type 0} → Manner → Store → Store → Variance → Tree → Tree →
       Result X (RelateFault Key Id Name) → Type 0

@@ -12,6 +12,9 @@
 --   Front c e h v i st st' gs more xs ys          of two lists of parts of a form h at v the first i were brought
 --                                                 together
 --   ExactFront i st st' xs ys                     what exactness says of that
+--   KeepsOne way st st' a b                       what made a and b one extends to st', however it ended
+--   KeepsUnified st st' a b                       so does what unified them, up to erasure
+--   KeepsAll st st'                               each solution does
 use Rattle.std.specs.Prelude.{◌≡◌, ℕ, ◌<◌, List, ◌++◌, All}
 use Rattle.term_enums.specs.declared.Variance.{Variance}
 use Rattle.relation_terms.specs.Heads.{Head}
@@ -100,3 +103,18 @@ pub record ExactFront (i : ℕ) (before after : Store) (xs ys : Tree) : Type 0 w
   pub unifies : (s : Assign) → IsErasedSolution after s → (j : ℕ) → j < i → Unifies s (nth j xs) (nth j ys)
   pub keeps : (s : Assign) → IsErasedSolution before s → Unifies s xs ys →
       HasErasedExtension before s (IsErasedSolution after)
+
+-- What made two things one extends to what is recorded after, however bringing them together ended.
+abbrev pub KeepsOne : Way → Store → Store → Tree → Tree → Type 0
+KeepsOne way before after a b = (w : Interpretation) (s : Assign) → Satisfies w before s → AreOneUnder way s a b →
+    HasExtension before s (λ s'. Satisfies w after s')
+
+-- Up to erasure, what unified two terms does.
+abbrev pub KeepsUnified : Store → Store → Tree → Tree → Type 0
+KeepsUnified before after a b = (s : Assign) → IsErasedSolution before s → Unifies s a b →
+    HasErasedExtension before s (IsErasedSolution after)
+
+-- Each solution does.
+abbrev pub KeepsAll : Store → Store → Type 0
+KeepsAll before after = (w : Interpretation) (s : Assign) → Satisfies w before s →
+    HasExtension before s (λ s'. Satisfies w after s')

@@ -12,6 +12,7 @@ use Rattle.relation_semantics.specs.Relation.{Items, at, parts, part_at, mode}
 use Rattle.relation_semantics.specs.Stores.{Store, InContext, weight, resolved}
 use Rattle.relation_semantics.specs.Agreeing.{Agree}
 use Rattle.relation_semantics.specs.Outcomes.{Outcome, Front, NeverOne, Exact, ExactFront, NoUnifier}
+use Rattle.relation_semantics.specs.Outcomes.{KeepsOne, KeepsUnified}
 use Rattle.relation_semantics.specs.Measures.{grown}
 use Rattle.relation_semantics.specs.Steps.{HasNoBinder, StaysFullFor}
 use Rattle.relation_semantics.specs.Goals.{Goal}
@@ -29,6 +30,7 @@ use Rattle.relation_semantics.proofs.Going.{pair_grown, later_itself}
 use Rattle.relation_semantics.proofs.Full.{full_itself, full_then, nth_plain}
 use Rattle.relation_semantics.proofs.Building.{built_itself, built_led, built_nth, needs_led}
 use Rattle.relation_semantics.proofs.Composing.{front_begins, front_goes_on, front_ends}
+use Rattle.relation_semantics.proofs.Keeping.{one_front, unified_front}
 use Rattle.relation_semantics.proofs.Passing.{passes_nowhere, passes_then, manner_then, outcome_seen}
 use Rattle.relation_semantics.proofs.Parts.{nth_size}
 use Rattle.relation_semantics.proofs.Agreeing.{agree_parts}
@@ -204,6 +206,10 @@ module _ {Key Id Name : Type 0} where
         z : IsFirstOrderStore q.store × ExactFront i r.store q.store xs ys × KeepsUniverseOf r.store q.store xs ys
         z = f.exact k is looked pair
 
+        unified : KeepsUnified q.store p.store x y → KeepsUnified r.store p.store xs ys
+        unified o = unified_front i p.store are.left_list are.right_list are.left_in are.right_in z.1
+            (subst₂ (KeepsUnified q.store p.store) ex ey o)
+
         go : (e : RelateFault Key Id Name) → ExactResult {X = A} q.store p.store x y (Err e) →
             ExactResult {X = B} r.store p.store xs ys (Err e)
         go (Unrelated d) o = (
@@ -211,8 +217,15 @@ module _ {Key Id Name : Type 0} where
               z.1).1 (subst₂ (NoUnifier q.store) ex ey o.0),
           led_binds r.store q.store p.store xs ys x y (leads_at z.2) o.1,
         )
-        go Budget o = led_fewer r.store q.store p.store xs ys x y (leads_at z.2) o
-        go Memory o = led_binds r.store q.store p.store xs ys x y (leads_at z.2) o
+        go Budget o = (led_fewer r.store q.store p.store xs ys x y (leads_at z.2) o.0, unified o.1)
+        go Memory o = (led_binds r.store q.store p.store xs ys x y (leads_at z.2) o.0, unified o.1)
+
+    -- What made the lists one extends to what a fault of two parts left.
+    pub fronted_keeps : (p : State Key Id Name) → AreParts r.store xs ys →
+        KeepsOne (at (part_at (items_in r) h i v)) q.store p.store x y → KeepsOne (parts h 0 v) r.store p.store xs ys
+    fronted_keeps p are k = one_front (part_at (items_in r) h i v) p.store are.left_list are.right_list are.left_in
+        are.right_in f.front
+        (subst₂ (λ t u. KeepsOne (at (part_at (items_in r) h i v)) q.store p.store t u) ex ey k)
 
     -- Where two parts are never one, nor are the lists.
     pub fronted_never : AreParts r.store xs ys → NeverOne (at (part_at (items_in r) h i v)) q.store x y →

@@ -18,7 +18,7 @@ use Rattle.relation_semantics.specs.Stores.{Store, IsSound, IsTermIn, weight}
 use Rattle.relation_semantics.specs.Goals.{Goal}
 use Rattle.relation_semantics.specs.Steps.{IsLater}
 use Rattle.relation_semantics.specs.Alphabets.{StaysBuilt, BuiltFrom}
-use Rattle.relation_semantics.specs.Outcomes.{StepsTo}
+use Rattle.relation_semantics.specs.Outcomes.{StepsTo, KeepsAll}
 use Rattle.relation_semantics.specs.Settings.{Settings}
 use Rattle.relation_semantics.specs.Errors.{ErrorOf}
 use Rattle.relation_semantics.specs.Agreeing.{Agree}
@@ -61,13 +61,13 @@ module _ {Key Id Name : Type 0} where
     pub smaller : weight q.store x + weight q.store y < weight r.store a + weight r.store b
 
   -- What a round of two binders says: it leads to bodies; nothing is left after one that relates them, and nothing was
-  -- recorded or registered; or a growth was refused.
+  -- recorded or registered; or a growth was refused, and no solution is lost.
   abbrev pub RoundVerdict : {T : Type 0} → Manners → State Key Id Name → State Key Id Name → List Goal → ℕ → Tree →
       Tree → (T → Tree) → Result (Option (T × T)) (RelateFault Key Id Name) → Type 0
   RoundVerdict M r q added round a b tree (Ok (Some p)) = RoundLeads M r q added round a b (tree p.0) (tree p.1)
   RoundVerdict M r q added round a b tree (Ok None) =
       (round ≡ 1) × OneRound r.ambient a b × (q.store ≡ r.store) × (added ≡ [])
-  RoundVerdict {T} M r q added round a b tree (Err f) = OnlyMemory {X = T} (Err f)
+  RoundVerdict {T} M r q added round a b tree (Err f) = OnlyMemory {X = T} (Err f) × KeepsAll r.store q.store
 
   -- A round was begun. Nothing was bound but of what the binders and the bindings were built of.
   pub record Opened {T : Type 0} (M : Manners) (r q : State Key Id Name) (round : ℕ) (a b : Tree) (tree : T → Tree)

@@ -57,9 +57,10 @@ module _ {S Key Id Name A : Type 0} (state : S → Context Key Id Name) (old new
   -- No solution is lost.
   pub record LosesNone (v : Variance) (a b : A)
       (result : Result (Vec (Goal Key (PredicateKey Key))) (RelateFault Key Id Name)) : Type 0 where
-    -- What made the two one before extends to what satisfies the record after and makes the goals true.
+    -- What made the two one before extends to what satisfies the record after and makes the goals true; so it does
+    -- where relating them stopped for want of memory or of instantiations, and was asked no goal.
     pub keeps : KeepsEqual state old new over tree a b result
-    -- Of first-order terms just the solutions that unify the two stay, up to erasure.
+    -- Of first-order terms just the solutions that unify the two stay, up to erasure, and all where it stopped so.
     pub most_general : AnswersExactly state old new over tree v a b result
 
   -- A fault is true.

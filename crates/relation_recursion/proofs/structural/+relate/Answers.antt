@@ -1032,7 +1032,8 @@ structurally_relate_consts-returns-in_err-keep_const_answer g t c =
           let next = fronted_next (const_head_of a) r.ambient i (const_parts_of a) (const_parts_of b) x y inv.fronted lx ly ex ey (arg_tree p.meaning) m.0
           inv.are_parts gone in
           subst (λ f. RelatedForms M r p r.ambient a b (p.meaning).const_ (Err f)) (sym m.2)
-          (consts_stopped M r.ambient a b (suc i) (p.meaning).const_ next)
+          (consts_stopped M r.ambient a b (suc i) (p.meaning).const_ c.requires.a_formed c.requires.b_formed alike
+          next)
     ])
 
 pub structurally_relate_consts-loop-i-preserved : goal.structurally_relate_consts-loop-i-preserved
@@ -1380,7 +1381,7 @@ structurally_relate_tys-returns-in_err-keep_answer-clause-related g t c =
           let next = fronted_next (head_of a) r.ambient i (direct_parts a) (direct_parts b) x y inv.fronted lx ly ex ey (arg_tree p.meaning) m.0
           inv.are_parts gone in
           subst (λ f. RelatedForms M r p r.ambient a b (p.meaning).ty (Err f)) (sym m.2)
-          (types_stopped M r.ambient a b (suc i) (p.meaning).ty c.requires.a_formed next)
+          (types_stopped M r.ambient a b (suc i) (p.meaning).ty c.requires.a_formed c.requires.b_formed alike next)
     ])
 
 pub structurally_relate_tys-loop-i-preserved : goal.structurally_relate_tys-loop-i-preserved
@@ -2260,7 +2261,7 @@ relate_in_order-returns-in_err-keep_term_answer g t c =
           let next = fronted_next (head_of a) r.ambient i (direct_parts a) (direct_parts b) x y inv.fronted lx ly ex ey
           (part_tree p.meaning) m.0 inv.are_parts gone in
           subst (λ f. RelatedForms M r p r.ambient a b (part_tree p.meaning) (Err f)) (sym m.2)
-          (terms_stopped M r.ambient a b (suc i) form (part_tree p.meaning) next)
+          (terms_stopped M r.ambient a b (suc i) form (part_tree p.meaning) alike next)
     ] in
     record {
       related = subst (λ u. RelatedForms M r p r.ambient a b (part_tree p.meaning) u) (sym failed) refused;

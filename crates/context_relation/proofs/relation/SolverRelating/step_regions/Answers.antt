@@ -17,7 +17,8 @@ returns-in_err-relate_regions-clause-related g c =
     memory_refused (held_stands r.structurally_relate_aliases r.infcx.ghost_name r.cache.pairs.kept s d f.stands) r.goals.items _ s.meaning d.meaning s.store d.store s.lawful d.lawful r.ambient_variance
     r.param_env c.requires.lawful.1 f.stands.meaning f.stands.lawful ((s.meaning).region c.args.a.now)
     ((s.meaning).region c.args.b.now) (d.meaning).region c.from_residual.result
-    (as_err c.from_residual.result Memory c.from_residual.ensures.0 c.from_residual.ensures.1) f.goes f.bound f.full f.built
+    (as_err c.from_residual.result Memory c.from_residual.ensures.0 c.from_residual.ensures.1)
+    c.in_err-relate_regions.ensures.refused f.goes f.bound f.full f.built
 
 pub returns-clause-related : goal.returns-clause-related
 returns-clause-related g c =

@@ -19,6 +19,7 @@ use Rattle.context_relation.specs.Relating.{term_in}
 use Rattle.relation_steps.specs.Alone.{RelatesAtOnce}
 use Rattle.relation_recursion.proofs.RelatableValues.{equal_one, one_equal}
 use Rattle.context_relation.proofs.Relating.{answered_alone_in, refused_alone_in, answered_taints, refused_taints, answered_open, refused_open, refused_built}
+use Rattle.context_relation.proofs.Relating.{keeps_by, unified_by, refused_keeps, refused_exactly}
 use Rattle.relation_semantics.specs.Alphabets.{StaysBuilt, NeedsVariable}
 use Rattle.relation_semantics.proofs.Building.{built_itself}
 use Rattle.relation_combining.proofs.OverContext.{all_taken}
@@ -180,11 +181,28 @@ returns-in_err-related-clause-both g c =
 
 pub returns-in_err-related-clause-loses_none : goal.returns-in_err-related-clause-loses_none
 returns-in_err-related-clause-loses_none g c =
+    let state = g.Infcx.InferCtxtLike.state in
+    let s = state c.args.infcx.now in
+    let d = state c.relate_in-related.new.infcx in
+    let e = c.args.param_env in
+    let v = c.args.variance in
+    let a = term_in s g.T.Relate.over g.T.HasTree.tree c.args.lhs in
+    let b = term_in s g.T.Relate.over g.T.HasTree.tree c.args.rhs in
+    let tree = term_in d g.T.Relate.over g.T.HasTree.tree in
+    let hs = c.relate_in-related.result.1.items in
+    let was = solving_in c.args.aliases [] s v e in
+    let then = solving_in c.args.aliases hs d v e in
     let f = c.in_err-related.field-0.0 in
     let is = as_err c.from_residual.result f c.from_residual.ensures.0 c.from_residual.ensures.1 in
+    let related = subst (λ z. Related solver_manner was then v a b tree z) c.in_err-related.was c.relate_in-related.ensures.related in
+    let refused : RefusesAs as_pair was then (at v) a b f = related.verdict in
     record {
-      keeps = none_answered _ c.from_residual.result f is;
-      most_general = none_answered _ c.from_residual.result f is;
+      keeps = refused_keeps state c.args.infcx.now c.relate_in-related.new.infcx g.T.Relate.over g.T.HasTree.tree v
+          c.args.lhs c.args.rhs f c.from_residual.result is (keeps_by as_pair was then (at v) a b f refused);
+      most_general = refused_exactly state c.args.infcx.now c.relate_in-related.new.infcx g.T.Relate.over
+          g.T.HasTree.tree v c.args.lhs c.args.rhs f c.from_residual.result is
+          (λ is pair. unified_by tree s.store d.store a b f (subst (ExactResult s.store d.store a b)
+          c.in_err-related.was ((c.relate_in-related.ensures.related).exact tt is pair)));
     }
 
 pub returns-in_err-related-clause-fault : goal.returns-in_err-related-clause-fault
