@@ -6,9 +6,6 @@
 --
 --   term_in c over tree x                    what is related of x in the context c
 --   KnowsTerm c over tree x                  it is known
---   TakesTerm c over tree x                  its binders bind by their lists
---   HasTerm c over tree x                    it is one of the context's terms
---   AreOne c over tree a b                   that of a and that of b are one
 --   Idle state old new result                no goal is answered, and nothing is recorded
 --   AnswersOnly state old new g e v result   only goals that relating registers are answered
 --   AnswersTerms .. e v a b result           sound: what satisfies the record after and makes the goals true relates a
@@ -38,7 +35,6 @@ use Rattle.relation_terms.specs.Meaning.{Meaning}
 use Rattle.relation_folds.specs.declared.error.RelateFault.{RelateFault}
 use Rattle.relation_folds.specs.declared.error.RelateFault.TheVariants.{Memory, Unrelated}
 use Rattle.relation_folds.specs.Faults.{IfUnrelated, IfSpent}
-use Rattle.relation_semantics.specs.Stores.{IsTermIn}
 use Rattle.relation_semantics.specs.Goals.{Goal as GoalOf, goals_of, goal_of, well_formed_predicate}
 use Rattle.relation_semantics.specs.Steps.{MakesToInstantiate, Taints}
 use Rattle.relation_semantics.specs.Alphabets.{StaysBuilt}
@@ -49,7 +45,6 @@ use Rattle.relation_semantics.specs.OneUniverse.{IsPairOf, KeepsUniverseOf, all_
 use Rattle.relation_semantics.specs.Relation.{at}
 use Rattle.relation_semantics.specs.Errors.{ErrorOf}
 use Rattle.relation_semantics.specs.Agreeing.{Agree}
-use Rattle.relation_semantics.specs.Bound.{IsWellBound}
 use Rattle.relation_semantics.specs.Lawful.{items_of}
 use Rattle.relation_steps.specs.Arguments.{related_tree}
 use Rattle.relation_semantics.specs.Contexts.{Context, DoesNothing, RegistersGoals}
@@ -70,18 +65,6 @@ module _ {Key Id Name A : Type 0} (c : Context Key Id Name) (over : Option Head)
     -- The interner knows the value.
     abbrev pub KnowsTerm : A → Type 0
     KnowsTerm x = IsTrue (known (term_in c over tree x))
-
-    -- It may be related: its binders bind by their lists.
-    abbrev pub TakesTerm : A → Type 0
-    TakesTerm x = IsWellBound (term_in c over tree x)
-
-    -- The variables in it are the context's, and nothing in it is of a later universe or escapes a binder.
-    abbrev pub HasTerm : A → Type 0
-    HasTerm x = IsTermIn c.store (term_in c over tree x)
-
-    -- Two are one.
-    abbrev pub AreOne : A → A → Type 0
-    AreOne a b = term_in c over tree a ≡ term_in c over tree b
 
 -- Between what a context is before the call and after it, which `state` shows.
 module _ {S Key Id Name : Type 0} (state : S → Context Key Id Name) (old new : S) where

@@ -12,7 +12,7 @@ use Rattle.relation_semantics.specs.Contexts.{Context}
 use Rattle.relation_semantics.specs.OneUniverse.{HasOneUniverse, all_unbound}
 use Rattle.relation_semantics.specs.Steps.{InstantiatesBinder}
 use Rattle.relation_semantics.specs.Stores.{Store, InContext, IsTermIn}
-use Rattle.context_relation.specs.Relating.{KnowsTerm, TakesTerm, HasTerm}
+use Rattle.context_relation.specs.Relating.{term_in, KnowsTerm}
 use Rattle.relation_coherence.specs.Bounds.{types_bound}
 
 module _ {Key Id Name : Type 0} where
@@ -49,8 +49,8 @@ module _ {Key Id Name : Type 0} where
     -- A list of arguments may be related in the context.
     pub record MayRelate (x : ArgsKey Key) : Type 0 where
       pub is_known : KnowsTerm c (Some arguments) args_tree x
-      pub taken : TakesTerm c (Some arguments) args_tree x
-      pub has : HasTerm c (Some arguments) args_tree x
+      pub taken : IsWellBound (term_in c (Some arguments) args_tree x)
+      pub has : IsTermIn c.store (term_in c (Some arguments) args_tree x)
 
   -- Two headers were opened, one after the other, with new variables for what they bind.
   pub record OpensHeaders (c d : Context Key Id Name) (left right : Binder Key (ArgsKey Key)) (x y : ArgsKey Key)

@@ -5,11 +5,12 @@ use Rattle.relation_terms.specs.Trees.{Tree, Assign, apply, Leaves}
 use Rattle.relation_terms.specs.Meaning.{Meaning, Extends as Grows}
 use Rattle.relation_semantics.specs.Relation.{IsValueLeaf, StaysWithin, FitKinds}
 use Rattle.relation_semantics.specs.Stores.{Store, IsMade, bound_term, universe_of, MayStandFor, IsNamable, IsAssignment}
-use Rattle.relation_semantics.specs.Stores.{MeetsBindings, IsSound, resolved}
+use Rattle.relation_semantics.specs.Bound.{IsWellBound}
+use Rattle.relation_semantics.specs.Stores.{MeetsBindings, IsSound, IsTermIn, resolved}
 use Rattle.relation_semantics.specs.Steps.{IsLater, MakesVariable, HasExtension, AreNewVariables, AllNamable}
 use Rattle.relation_semantics.specs.FirstOrder.{IsErasedSolution}
 use Rattle.relation_semantics.specs.Contexts.{Context}
-use Rattle.context_relation.specs.Relating.{term_in, KnowsTerm, TakesTerm, HasTerm}
+use Rattle.context_relation.specs.Relating.{term_in, KnowsTerm}
 
 -- A value for each variable, which names what the variable's universe can.
 abbrev pub GivesValues : Store → Assign → Type 0
@@ -44,5 +45,6 @@ abbrev pub TermStays : {S Key Id Name A : Type 0} → (S → Context Key Id Name
 TermStays {S = S} {A = A} state over tree = (old new : S) → Grows (state old).meaning (state new).meaning →
     IsLater (state old).store (state new).store → (x : A) → KnowsTerm (state old) over tree x →
     (term_in (state new) over tree x ≡ term_in (state old) over tree x) × KnowsTerm (state new) over tree x ×
-    (TakesTerm (state old) over tree x → TakesTerm (state new) over tree x) ×
-    (HasTerm (state old) over tree x → HasTerm (state new) over tree x)
+    (IsWellBound (term_in (state old) over tree x) → IsWellBound (term_in (state new) over tree x)) ×
+    (IsTermIn (state old).store (term_in (state old) over tree x) →
+    IsTermIn (state new).store (term_in (state new) over tree x))

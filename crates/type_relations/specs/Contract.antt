@@ -12,11 +12,12 @@ use Rattle.relation_terms.specs.Trees.{Tree}
 use Rattle.relation_terms.specs.Meaning.{Meaning, Extends}
 use Rattle.relation_folds.specs.declared.error.RelateFault.{RelateFault}
 use Rattle.relation_folds.specs.Faults.{KnowsFault, IfSpent}
-use Rattle.relation_semantics.specs.Stores.{IsSound}
+use Rattle.relation_semantics.specs.Bound.{IsWellBound}
+use Rattle.relation_semantics.specs.Stores.{IsSound, IsTermIn}
 use Rattle.relation_semantics.specs.Steps.{IsLater}
 use Rattle.relation_semantics.specs.Contexts.{Context, KnowsEnv, SpendsByBinding}
 use Rattle.relation_semantics.specs.ContextCalls.{KeepsBeside}
-use Rattle.context_relation.specs.Relating.{KnowsTerm, TakesTerm, HasTerm, AreOne, Idle, AnswersOnly, AnswersTerms}
+use Rattle.context_relation.specs.Relating.{term_in, KnowsTerm, Idle, AnswersOnly, AnswersTerms}
 use Rattle.context_relation.specs.Relating.{KeepsEqual, TellsApart, AnswersError, RelatesAgreeing, AnswersExactly}
 use Rattle.context_relation.specs.Relating.{ProvesApart, SpendsNoMore, MakesToRelate, BuildsNoMore}
 use Rattle.context_relation.specs.Completing.{JustAsked}
@@ -37,11 +38,11 @@ module _ {Key Id Name A : Type 0} (c : Context Key Id Name) (over : Option Head)
     -- Two lists have as many arguments.
     pub fits : Fits c.meaning a b
     -- Their binders bind by their lists.
-    pub lhs_taken : TakesTerm c over tree a
-    pub rhs_taken : TakesTerm c over tree b
+    pub lhs_taken : IsWellBound (term_in c over tree a)
+    pub rhs_taken : IsWellBound (term_in c over tree b)
     -- Both are the context's: their variables are, and nothing in them is of a later universe or escapes a binder.
-    pub lhs_in : HasTerm c over tree a
-    pub rhs_in : HasTerm c over tree b
+    pub lhs_in : IsTermIn c.store (term_in c over tree a)
+    pub rhs_in : IsTermIn c.store (term_in c over tree b)
 
 -- What is promised between what a context is before the call and after it, which `state` shows.
 module _ {S Key Id Name A : Type 0} (state : S → Context Key Id Name) (old new : S) (over : Option Head)
@@ -84,7 +85,7 @@ module _ {S Key Id Name A : Type 0} (state : S → Context Key Id Name) (old new
     -- Of two bare terms just what they ask for is recorded and answered.
     pub asked : JustAsked state old new over tree g e v a b result
     -- Of two that are one nothing is.
-    pub same : AreOne (state old) over tree a b → Idle state old new result
+    pub same : term_in (state old) over tree a ≡ term_in (state old) over tree b → Idle state old new result
 
   -- What is left: all that was recorded, and what is made, bound and spent.
   pub record LeavesRest (a b : A)
