@@ -7,11 +7,11 @@ use Rattle.relation_terms.specs.Heads.{VarKind, type_var, int_var, float_var, co
 use Rattle.relation_terms.specs.Heads.{static_region, const_param, atom}
 use Rattle.relation_terms.specs.Trees.{Tree, leaf, Assign, IsList, nth}
 use Rattle.relation_terms.specs.Erasure.{erase}
-use Rattle.relation_semantics.specs.Relation.{Items, Interpretation, Way, at, parts}
+use Rattle.relation_semantics.specs.Relation.{Items, Way, at, parts}
 use Rattle.relation_semantics.specs.Stores.{Store, IsMade, InContext, IsSound, Satisfies, universe_of}
 use Rattle.relation_semantics.specs.Goals.{Goal}
 use Rattle.relation_semantics.specs.FirstOrder.{Unifies, IsErasedSolution}
-use Rattle.relation_semantics.specs.Steps.{IsLater, IsNumberKind, AgreeOn, HasExtension, HasErasedExtension, ChangesNothing}
+use Rattle.relation_semantics.specs.Steps.{IsLater, IsNumberKind, AgreeOn, HasErasedExtension, ChangesNothing}
 use Rattle.relation_semantics.specs.Generalising.{MakesUnbound}
 use Rattle.relation_semantics.specs.Outcomes.{AreOneUnder, Outcome, StepsTo, ExactStep, Front, ExactFront, KeepsOne}
 use Rattle.relation_semantics.specs.Outcomes.{KeepsUnified, KeepsAll}
