@@ -1,4 +1,4 @@
--- Relating two types of which one goal is asked, in a context: that goal, or a refused growth. And an error with another;
+-- Relating two types of which one goal is asked, in a context: that goal, or a refused growth; an error with another;
 -- and that a fault loses no solution.
 use Rattle.std.proofs.Common.{◌≡◌, ◌<◌, refl, sym, subst, arith, ⊎_elim, List, [], Option, Result, Ok, Err}
 use Rattle.std.proofs.lemmas.List.Elements.{All-nil}
