@@ -75,9 +75,9 @@ pub record WritesNothing (before after : Store) : Type 0 where
   pub budget : after.budget ≡ before.budget
 
 -- What is bound after, and what was registered, is built of an alphabet. The current universe is the old one, unless
--- the alphabet has binders; it is tainted only if it was, unless the alphabet has an error. Nothing was bound and spent,
--- and no variable made but of regions, unless the alphabet has such; nor was one of regions, unless it has these or
--- binders.
+-- the alphabet has binders; it is tainted only if it was, unless the alphabet has an error. Nothing was bound and
+-- spent, and no variable made but of regions, unless the alphabet has such; nor was one of regions, unless it has
+-- these or binders.
 pub record Builds (k : Alphabet) (before after : Store) (added : List Goal) : Type 0 where
   pub binds : BindsBuiltOf k after
   pub asks : All (IsGoalOf k) added

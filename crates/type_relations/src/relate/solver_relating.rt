@@ -86,8 +86,8 @@ pub trait RelateExt: InferCtxtLike {
     /// of the two, or of two parts that stand at one place, the left side's first; or of a variable that can't be bound
     /// to the other side, in which it stands itself, or a placeholder that it can't name. Of first-order terms in a
     /// first-order record at `Invariant` no solution up to erasure unifies them then. Answers `Budget` only where no
-    /// instantiation is left, and `Memory` where a growth was refused. These two lose no solution: what made the two one
-    /// extends to what is recorded then, and who asks again with more gets the answer.
+    /// instantiation is left, and `Memory` where a growth was refused. These two lose no solution: what made the two
+    /// one extends to what is recorded then, and who asks again with more gets the answer.
     ///
     /// On each outcome all that was recorded stands. It makes no variable of a number, and others only to instantiate
     /// one or to open a binder: none where no binder stands in either or in what a variable was bound to, and nothing
