@@ -1,0 +1,200 @@
+-- Nothing is recorded but what two terms ask for by what they come to: one piece of work after another, part by part.
+use Rattle.std.proofs.Common.{◌≡◌, ◌⊎◌, ℕ, zero, suc, ◌<◌, refl, sym, ap, ◌∙◌, inl, inr, subst, subst₂, arith, List, []}
+use Rattle.std.proofs.Common.{◌∷◌, ◌++◌, All, append_assoc, IsTrue, true, false, Some}
+use Rattle.std.proofs.lemmas.Bool.{false≢true}
+use Rattle.std.proofs.lemmas.List.{append-nil}
+use Rattle.std.proofs.lemmas.List.Elements.{All-nil, All-append, All-cons}
+use Rattle.term_enums.specs.declared.Variance.{Variance}
+use Rattle.relation_terms.specs.Heads.{VarKind, region_sort, region_var, var_sort, Head, variable, bound, placeholder, atom}
+use Rattle.relation_terms.specs.Heads.{unknown}
+use Rattle.relation_terms.specs.Trees.{Tree, leaf, node, bind, nil, cons, apply, IsList, count, nth}
+use Rattle.relation_semantics.specs.Relation.{Items, part_at, plain, IsRelatedHead, IsAlias, sort_of}
+use Rattle.relation_semantics.specs.Settings.{Settings, DefersAliases}
+use Rattle.relation_semantics.specs.Stores.{Store, Constraint, IsSound, entry_term, resolved}
+use Rattle.relation_semantics.specs.Goals.{Goal}
+use Rattle.relation_semantics.specs.Steps.{IsLater, HasNoBinder}
+use Rattle.relation_semantics.specs.Alphabets.{Alphabet, IsBuiltOf, BindsBuiltOf, StaysBuilt, BuiltFrom}
+use Rattle.relation_semantics.specs.Errors.{IsReadAs, IsDeferred, AreOfOneForm, over_parts, over_aliases, one_leaf, parameters}
+use Rattle.relation_semantics.specs.Parts.{direct_parts, head_of}
+use Rattle.relation_semantics.specs.Asking.{a_constraint, region_at, HaveAlias, AsksFor, of_regions, of_parts}
+use Rattle.relation_semantics.specs.Recording.{AddsOnly, AskSince, HasNoAliasHead, IsGoneInto, AsksNoMore, FrontAsksNoMore}
+use Rattle.relation_semantics.specs.Recording.{FrontAskSince, LeadsAsking}
+use Rattle.relation_semantics.proofs.Building.{region_kind_is}
+use Rattle.relation_semantics.proofs.Going.{later_through}
+use Rattle.relation_semantics.proofs.OneParts.{count_applied}
+use Rattle.relation_semantics.proofs.ReadAs.{read_later, read_value}
+use Rattle.relation_semantics.proofs.Related.{no_region_head}
+use Rattle.relation_semantics.proofs.Resolved.{resolved_free, resolved_meets}
+use Rattle.relation_semantics.proofs.Values.{apply-nth}
+
+-- What is built of an alphabet without binders has none, and without alias heads is no alias.
+pub built_unbound_term : (k : Alphabet) → k.binders ≡ false → (t : Tree) → IsBuiltOf k t → HasNoBinder t
+built_unbound_term k none (leaf l) h = tt
+built_unbound_term k none (node f ts) h = built_unbound_term k none ts h.1
+built_unbound_term k none (bind ks t) h = absurd (false≢true (sym none ∙ h.0.0))
+built_unbound_term k none nil h = tt
+built_unbound_term k none (cons t ts) h = (built_unbound_term k none t h.0, built_unbound_term k none ts h.1)
+
+built_no_alias : (k : Alphabet) → HasNoAliasHead k → (t : Tree) → IsBuiltOf k t → IsAlias t → ⊥
+built_no_alias k n (node h ts) f i = n h i f.0
+built_no_alias k n t f i = i
+
+-- So where two such terms aren't left to a goal, none is an alias.
+pub gone_into : (g : Settings) (k : Alphabet) (a b : Tree) → IsGoneInto g k → IsBuiltOf k a → IsBuiltOf k b →
+    (IsDeferred g a b → ⊥) → HaveAlias a b → ⊥
+gone_into g k a b gone ha hb n o = go gone.1 o
+  where
+    go : DefersAliases g ⊎ HasNoAliasHead k → HaveAlias a b → ⊥
+    go (inl l) p = n (inl (l, p))
+    go (inr m) (inl p) = built_no_alias k m a ha p
+    go (inr m) (inr p) = built_no_alias k m b hb p
+
+-- Constraints that were added, one piece of work after another.
+pub adds_same : (P : Constraint → Type 0) (before after : List Constraint) → after ≡ before → AddsOnly P before after
+adds_same P before after e = record { added = []; recorded = e ∙ sym (append-nil before); each = All-nil P }
+
+pub adds_one : (P : Constraint → Type 0) (q : Constraint) (before after : List Constraint) → after ≡ before ++ q ∷ [] →
+    P q → AddsOnly P before after
+adds_one P q before after e h = record { added = q ∷ []; recorded = e; each = All-cons P q [] h (All-nil P) }
+
+pub adds_then : (P : Constraint → Type 0) {r q p : List Constraint} → AddsOnly P r q → AddsOnly P q p → AddsOnly P r p
+adds_then P {r} f g = record {
+  added = f.added ++ g.added;
+  recorded = g.recorded ∙ ap (λ cs. cs ++ g.added) f.recorded ∙ append_assoc r f.added g.added;
+  each = All-append P f.added g.added f.each g.each;
+}
+
+pub adds_as : (P Q : Constraint → Type 0) {r q : List Constraint} → ((z : Constraint) → P z → Q z) → AddsOnly P r q →
+    AddsOnly Q r q
+adds_as P Q h f = record { added = f.added; recorded = f.recorded; each = λ i d l. h _ (f.each i d l) }
+
+-- What two terms ask for since a record they do since a later one.
+pub since_later : (c : Items) (q : Constraint) (v : Variance) (a b : Tree) (middle after : Store) → IsLater middle after →
+    AskSince c middle q v a b → AskSince c after q v a b
+since_later c q v a b middle after m f = λ st l g. f st (later_through m l) g
+
+-- No constraint was recorded.
+pub no_more_same : (g : Settings) (c : Items) (before after : Store) (v : Variance) (a b : Tree) →
+    after.constraints ≡ before.constraints → AsksNoMore g c before after v a b
+no_more_same g c before after v a b e = λ k gone ha hb all.
+    adds_same (λ q. AskSince c after q v a b) before.constraints after.constraints e
+
+-- A step, and then the pair that it left.
+pub no_more_led : (g : Settings) (c : Items) (before middle after : Store) (v w : Variance) (a b x y : Tree) (gs : List Goal) →
+    IsLater middle after → LeadsAsking g c before middle v a b w x y → StaysBuilt before middle gs a b →
+    BuiltFrom before a b x y → AsksNoMore g c middle after w x y → AsksNoMore g c before after v a b
+no_more_led g c before middle after v w a b x y gs later led stays from rest = λ k gone ha hb all.
+    let l = led k gone ha hb all in
+    let z = from k ha hb all in
+    adds_then (λ q. AskSince c after q v a b)
+    (adds_same (λ q. AskSince c after q v a b) before.constraints middle.constraints l.0)
+    (adds_as (λ q. AskSince c after q w x y) (λ q. AskSince c after q v a b)
+    (λ q f st m h. l.1 q st (later_through later m) h (f st m h)) (rest k gone z.0 z.1 (stays k ha hb all).binds))
+
+-- Two steps, one after the other.
+pub leads_then : (g : Settings) (c : Items) (before middle after : Store) (v w u : Variance) (a b x y s t : Tree)
+    (gs : List Goal) → IsLater middle after → LeadsAsking g c before middle v a b w x y →
+    StaysBuilt before middle gs a b → BuiltFrom before a b x y → LeadsAsking g c middle after w x y u s t →
+    LeadsAsking g c before after v a b u s t
+leads_then g c before middle after v w u a b x y s t gs later f stays from h = λ k gone ha hb all.
+    let l = f k gone ha hb all in
+    let z = from k ha hb all in
+    let m = h k gone z.0 z.1 (stays k ha hb all).binds in
+    (m.0 ∙ l.0, λ q st o o'. λ asks. l.1 q st (later_through later o) o' (m.1 q st o o' asks))
+
+-- None of the parts was related, and one more.
+pub front_none : (g : Settings) (c : Items) (st : Store) (h : Head) (v : Variance) (xs ys : Tree) →
+    FrontAsksNoMore g c st st h v 0 xs ys
+front_none g c st h v xs ys = λ k gone ha hb all.
+    adds_same (λ q. FrontAskSince c h v 0 xs ys st q) st.constraints st.constraints refl
+
+pub front_next : (g : Settings) (c : Items) (before middle after : Store) (h : Head) (v : Variance) (i : ℕ) (xs ys : Tree)
+    (gs : List Goal) → IsLater middle after → StaysBuilt before middle gs xs ys →
+    BuiltFrom before xs ys (nth i xs) (nth i ys) → FrontAsksNoMore g c before middle h v i xs ys →
+    AsksNoMore g c middle after (part_at c h i v) (nth i xs) (nth i ys) → FrontAsksNoMore g c before after h v (suc i) xs ys
+front_next g c before middle after h v i xs ys gs later stays from front part = λ k gone ha hb all.
+    let z = from k ha hb all in
+    adds_then (λ q. FrontAskSince c h v (suc i) xs ys after q)
+    (adds_as (λ q. FrontAskSince c h v i xs ys middle q) (λ q. FrontAskSince c h v (suc i) xs ys after q) on
+    (front k gone ha hb all))
+    (adds_as (λ q. AskSince c after q (part_at c h i v) (nth i xs) (nth i ys))
+    (λ q. FrontAskSince c h v (suc i) xs ys after q) (λ q f. (i, omega arith, f))
+    (part k gone z.0 z.1 (stays k ha hb all).binds))
+  where
+    on : (q : Constraint) → FrontAskSince c h v i xs ys middle q → FrontAskSince c h v (suc i) xs ys after q
+    on q p = let l = p.1 in (p.0, omega (arith, l), since_later c q (part_at c h p.0 v) (nth p.0 xs) (nth p.0 ys) middle after later p.2)
+
+-- Two forms ask for what their parts do.
+pub form_asks_since : (c : Items) (st : Store) (q : Constraint) (v : Variance) (h k : Head) (ts us : Tree) (j : ℕ) → IsList ts →
+    IsList us → (HaveAlias (node h ts) (node k us) → ⊥) → IsRelatedHead h → plain h ≡ plain k → j < count ts →
+    j < count us → AskSince c st q (part_at c h j v) (nth j ts) (nth j us) → AskSince c st q v (node h ts) (node k us)
+form_asks_since c st q v h k ts us j lx ly none related alike l m f = λ now later g.
+    of_parts j refl refl none related alike
+    (subst (λ n. j < n) (sym (count_applied (resolved now) ts lx)) l)
+    (subst (λ n. j < n) (sym (count_applied (resolved now) us ly)) m)
+    (subst₂ (AsksFor c (a_constraint q) (part_at c h j v)) (apply-nth (resolved now) j ts lx)
+    (apply-nth (resolved now) j us ly) (f now later g))
+
+-- So where all parts of two of one form were related.
+module _ (g : Settings) (c : Items) (before after : Store) (v : Variance) (a b : Tree) (n : ℕ)
+    (none : HaveAlias a b → ⊥) (left : IsList (direct_parts a)) (right : IsList (direct_parts b))
+    (ea : n ≡ count (direct_parts a)) (eb : n ≡ count (direct_parts b))
+    (related : (h : Head) (ts : Tree) → a ≡ node h ts → IsRelatedHead h) where
+  part_asks : AreOfOneForm a b → (q : Constraint) →
+      FrontAskSince c (head_of a) v n (direct_parts a) (direct_parts b) after q → AskSince c after q v a b
+  part_asks (over_parts {h} {ts} {us} d e m) q f =
+      subst₂ (AskSince c after q v) (sym d) (sym e) (form_asks_since c after q v h h ts us f.0
+      (subst (λ x. IsList (direct_parts x)) d left) (subst (λ x. IsList (direct_parts x)) e right)
+      (subst₂ (λ x y. HaveAlias x y → ⊥) d e none) (related h ts d) refl
+      (subst (λ z. f.0 < z) (ea ∙ ap (λ x. count (direct_parts x)) d) f.1)
+      (subst (λ z. f.0 < z) (eb ∙ ap (λ x. count (direct_parts x)) e) f.1)
+      (subst₂ (λ x y. AskSince c after q (part_at c (head_of x) f.0 v) (nth f.0 (direct_parts x)) (nth f.0 (direct_parts y)))
+      d e f.2))
+  part_asks (over_aliases d e m) q f = absurd (none (inl (subst IsAlias (sym d) tt)))
+  part_asks (one_leaf d e) q f =
+      let l = f.1 in let o : n ≡ 0 = ea ∙ ap (λ x. count (direct_parts x)) d in absurd (omega (arith, l, o))
+  part_asks (parameters d e p) q f =
+      let l = f.1 in let o : n ≡ 0 = ea ∙ ap (λ x. count (direct_parts x)) d in absurd (omega (arith, l, o))
+
+  pub form_no_more : AreOfOneForm a b → ((k : Alphabet) → IsBuiltOf k a → IsBuiltOf k (direct_parts a)) →
+      ((k : Alphabet) → IsBuiltOf k b → IsBuiltOf k (direct_parts b)) →
+      FrontAsksNoMore g c before after (head_of a) v n (direct_parts a) (direct_parts b) →
+      AsksNoMore g c before after v a b
+  form_no_more o pa pb f = λ k gone ha hb all.
+      adds_as (λ q. FrontAskSince c (head_of a) v n (direct_parts a) (direct_parts b) after q)
+      (λ q. AskSince c after q v a b) (part_asks o) (f k gone (pa k ha) (pb k hb) all)
+
+-- A region stands for itself.
+pub region_stays : (st : Store) → IsSound st → (r : Tree) → sort_of r ≡ region_sort → apply (resolved st) r ≡ r
+region_stays st g (leaf (variable k n)) e = go k (region_kind_is k e)
+  where
+    go : (k : VarKind) → k ≡ region_var → resolved st k n ≡ leaf (variable k n)
+    go k is = subst (λ z. resolved st z n ≡ leaf (variable z n)) (sym is)
+        (resolved_free st region_var n (ap (entry_term region_var) (g.regions_unbound n)))
+region_stays st g (leaf (bound k d i)) e = refl
+region_stays st g (leaf (placeholder k u n)) e = refl
+region_stays st g (leaf (atom x)) e = refl
+region_stays st g (leaf unknown) e = refl
+region_stays st g (node h ts) e = absurd (no_region_head h e)
+region_stays st g (bind ks t) e = absurd cc
+region_stays st g nil e = absurd cc
+region_stays st g (cons t ts) e = absurd cc
+
+-- One constraint was recorded of two regions.
+pub regions_no_more : (g : Settings) (c : Items) (before after : Store) (v : Variance) (a b : Tree) (q : Constraint) →
+    sort_of a ≡ region_sort → sort_of b ≡ region_sort → region_at v a b ≡ Some q →
+    after.constraints ≡ before.constraints ++ q ∷ [] → AsksNoMore g c before after v a b
+regions_no_more g c before after v a b q sa sb asks e = λ k gone ha hb all.
+    adds_one (λ z. AskSince c after z v a b) q before.constraints after.constraints e (λ st l s.
+    subst₂ (AsksFor c (a_constraint q) v) (sym (region_stays st s a sa)) (sym (region_stays st s b sb))
+    (of_regions q refl sa sb asks))
+
+-- What a term is read as comes to the same in each later record.
+pub reads_since : (before st : Store) → IsLater before st → IsSound st → (a u : Tree) → IsReadAs before a u →
+    apply (resolved st) a ≡ apply (resolved st) u
+reads_since before st l g a u p = read_value st (resolved st) (resolved_meets st g) a u (read_later before st l a u p)
+
+pub leads_read : (g : Settings) (c : Items) (st : Store) (v : Variance) (a b u w : Tree) → IsReadAs st a u →
+    IsReadAs st b w → LeadsAsking g c st st v a b v u w
+leads_read g c st v a b u w p o = λ k gone ha hb all. (refl, λ q now l s asks.
+    subst₂ (AsksFor c (a_constraint q) v) (sym (reads_since st now l s a u p)) (sym (reads_since st now l s b w o)) asks)
