@@ -4,22 +4,28 @@ use Rattle.std.proofs.Common.{◌∷◌, ◌++◌, All, append_assoc, IsTrue, tr
 use Rattle.std.proofs.lemmas.Bool.{false≢true}
 use Rattle.std.proofs.lemmas.List.{append-nil}
 use Rattle.std.proofs.lemmas.List.Elements.{All-nil, All-append, All-cons}
+use Rattle.term_enums.specs.declared.StructurallyRelateAliases.{StructurallyRelateAliases}
 use Rattle.term_enums.specs.declared.Variance.{Variance}
 use Rattle.relation_terms.specs.Heads.{VarKind, region_sort, region_var, var_sort, Head, variable, bound, placeholder, atom}
-use Rattle.relation_terms.specs.Heads.{unknown}
+use Rattle.relation_terms.specs.Heads.{unknown, value, value_type, value_branch, expression}
 use Rattle.relation_terms.specs.Trees.{Tree, leaf, node, bind, nil, cons, apply, IsList, count, nth}
 use Rattle.relation_semantics.specs.Relation.{Items, part_at, plain, IsRelatedHead, IsAlias, sort_of}
 use Rattle.relation_semantics.specs.Settings.{Settings, DefersAliases}
-use Rattle.relation_semantics.specs.Stores.{Store, Constraint, IsSound, entry_term, resolved}
+use Rattle.relation_semantics.specs.Stores.{Store, Constraint, IsSound, bound_to, entry_of, entry_term, resolved}
 use Rattle.relation_semantics.specs.Goals.{Goal}
 use Rattle.relation_semantics.specs.Steps.{IsLater, HasNoBinder}
 use Rattle.relation_semantics.specs.Alphabets.{Alphabet, IsBuiltOf, BindsBuiltOf, StaysBuilt, BuiltFrom}
-use Rattle.relation_semantics.specs.Errors.{IsReadAs, IsDeferred, AreOfOneForm, over_parts, over_aliases, one_leaf, parameters}
-use Rattle.relation_semantics.specs.Parts.{direct_parts, head_of}
+use Rattle.relation_semantics.specs.Errors.{IsReadAs, itself, by_binding, IsDeferred, AreOfOneForm, over_parts, over_aliases, one_leaf, parameters}
+use Rattle.relation_semantics.specs.Errors.{AreOfOneConst, AreOfOneValue, values, expressions, over_arguments, one_const_leaf}
+use Rattle.relation_semantics.specs.Errors.{const_parameters, one_value, as_many_branches}
+use Rattle.relation_semantics.specs.Generalising.{Stage, Turn, Generalised, InstantiatesBy, met_before, met_first, no_type, stays}
+use Rattle.relation_semantics.specs.Generalising.{gives_way, alias_gives_way, by_parts, in_binder, no_parts, next_part}
+use Rattle.relation_semantics.specs.Parts.{direct_parts, head_of, const_parts_of, const_head_of, branches_of}
 use Rattle.relation_semantics.specs.Asking.{a_constraint, region_at, HaveAlias, AsksFor, of_regions, of_parts}
 use Rattle.relation_semantics.specs.Recording.{AddsOnly, AskSince, HasNoAliasHead, IsGoneInto, AsksNoMore, FrontAsksNoMore}
 use Rattle.relation_semantics.specs.Recording.{FrontAskSince, LeadsAsking}
-use Rattle.relation_semantics.proofs.Building.{region_kind_is}
+use Rattle.relation_semantics.proofs.Asking.{branches_are_asked}
+use Rattle.relation_semantics.proofs.Building.{region_kind_is, built_parts, built_const_parts}
 use Rattle.relation_semantics.proofs.Going.{later_through}
 use Rattle.relation_semantics.proofs.OneParts.{count_applied}
 use Rattle.relation_semantics.proofs.ReadAs.{read_later, read_value}
@@ -135,7 +141,16 @@ form_asks_since c st q v h k ts us j lx ly none related alike l m f = λ now lat
     (subst₂ (AsksFor c (a_constraint q) (part_at c h j v)) (apply-nth (resolved now) j ts lx)
     (apply-nth (resolved now) j us ly) (f now later g))
 
--- So where all parts of two of one form were related.
+-- So where all parts of two were related.
+pub parts_no_more : (g : Settings) (c : Items) (before after : Store) (v : Variance) (h : Head) (n : ℕ) (a b xs ys : Tree) →
+    ((q : Constraint) → FrontAskSince c h v n xs ys after q → AskSince c after q v a b) →
+    ((k : Alphabet) → IsBuiltOf k a → IsBuiltOf k xs) → ((k : Alphabet) → IsBuiltOf k b → IsBuiltOf k ys) →
+    FrontAsksNoMore g c before after h v n xs ys → AsksNoMore g c before after v a b
+parts_no_more g c before after v h n a b xs ys asks pa pb f = λ k gone ha hb all.
+    adds_as (λ q. FrontAskSince c h v n xs ys after q) (λ q. AskSince c after q v a b) asks
+    (f k gone (pa k ha) (pb k hb) all)
+
+-- Of types and what stands over and under binders.
 module _ (g : Settings) (c : Items) (before after : Store) (v : Variance) (a b : Tree) (n : ℕ)
     (none : HaveAlias a b → ⊥) (left : IsList (direct_parts a)) (right : IsList (direct_parts b))
     (ea : n ≡ count (direct_parts a)) (eb : n ≡ count (direct_parts b))
@@ -156,13 +171,83 @@ module _ (g : Settings) (c : Items) (before after : Store) (v : Variance) (a b :
   part_asks (parameters d e p) q f =
       let l = f.1 in let o : n ≡ 0 = ea ∙ ap (λ x. count (direct_parts x)) d in absurd (omega (arith, l, o))
 
-  pub form_no_more : AreOfOneForm a b → ((k : Alphabet) → IsBuiltOf k a → IsBuiltOf k (direct_parts a)) →
-      ((k : Alphabet) → IsBuiltOf k b → IsBuiltOf k (direct_parts b)) →
+  pub form_no_more : AreOfOneForm a b →
       FrontAsksNoMore g c before after (head_of a) v n (direct_parts a) (direct_parts b) →
       AsksNoMore g c before after v a b
-  form_no_more o pa pb f = λ k gone ha hb all.
-      adds_as (λ q. FrontAskSince c (head_of a) v n (direct_parts a) (direct_parts b) after q)
-      (λ q. AskSince c after q v a b) (part_asks o) (f k gone (pa k ha) (pb k hb) all)
+  form_no_more o f = parts_no_more g c before after v (head_of a) n a b (direct_parts a) (direct_parts b) (part_asks o)
+      (λ k. built_parts k a) (λ k. built_parts k b) f
+
+-- Values do where their branches do.
+value_asks_since : (c : Items) (st : Store) (q : Constraint) (v : Variance) (t u ts us : Tree) (j : ℕ) → IsList ts →
+    IsList us → j < count ts → j < count us → AskSince c st q (part_at c value_branch j v) (nth j ts) (nth j us) →
+    AskSince c st q v (node value (cons (node value_type (cons t nil)) (cons (node value_branch ts) nil)))
+    (node value (cons (node value_type (cons u nil)) (cons (node value_branch us) nil)))
+value_asks_since c st q v t u ts us j lx ly l m f = λ now later g.
+    branches_are_asked (cons (apply (resolved now) t) nil) (cons (apply (resolved now) u) nil) (
+      j,
+      subst (λ n. j < n) (sym (count_applied (resolved now) ts lx)) l,
+      subst (λ n. j < n) (sym (count_applied (resolved now) us ly)) m,
+      subst₂ (AsksFor c (a_constraint q) (part_at c value_branch j v)) (apply-nth (resolved now) j ts lx)
+          (apply-nth (resolved now) j us ly) (f now later g),
+    )
+
+module _ (c : Items) (st : Store) (q : Constraint) (v : Variance) (t u : Tree) (j : ℕ) where
+  one_value_since : (x : Tree) → IsList (branches_of x) → j < count (branches_of x) →
+      AskSince c st q (part_at c value_branch j v) (nth j (branches_of x)) (nth j (branches_of x)) →
+      AskSince c st q v (node value (cons (node value_type (cons t nil)) (cons x nil)))
+      (node value (cons (node value_type (cons u nil)) (cons x nil)))
+  one_value_since (node value_branch ts) lx l f = value_asks_since c st q v t u ts ts j lx lx l l f
+  one_value_since x lx l f = absurd (omega (arith, l))
+
+  values_since : (x y : Tree) → AreOfOneValue x y → IsList (branches_of x) → IsList (branches_of y) →
+      j < count (branches_of x) → j < count (branches_of y) →
+      AskSince c st q (part_at c value_branch j v) (nth j (branches_of x)) (nth j (branches_of y)) →
+      AskSince c st q v (node value (cons (node value_type (cons t nil)) (cons x nil)))
+      (node value (cons (node value_type (cons u nil)) (cons y nil)))
+  values_since x y (one_value s) lx ly l m f =
+      subst (λ z. AskSince c st q v (node value (cons (node value_type (cons t nil)) (cons x nil)))
+      (node value (cons (node value_type (cons u nil)) (cons z nil)))) s (one_value_since x lx l
+      (subst (λ z. AskSince c st q (part_at c value_branch j v) (nth j (branches_of x)) (nth j (branches_of z))) (sym s) f))
+  values_since x y (as_many_branches {ts} {us} d e n) lx ly l m f =
+      subst₂ (λ z w. AskSince c st q v (node value (cons (node value_type (cons t nil)) (cons z nil)))
+      (node value (cons (node value_type (cons u nil)) (cons w nil)))) (sym d) (sym e)
+      (value_asks_since c st q v t u ts us j (subst (λ z. IsList (branches_of z)) d lx)
+      (subst (λ z. IsList (branches_of z)) e ly) (subst (λ z. j < count (branches_of z)) d l)
+      (subst (λ z. j < count (branches_of z)) e m)
+      (subst₂ (λ z w. AskSince c st q (part_at c value_branch j v) (nth j (branches_of z)) (nth j (branches_of w))) d e f))
+
+-- So constants do.
+module _ (g : Settings) (c : Items) (before after : Store) (v : Variance) (a b : Tree) (n : ℕ)
+    (none : HaveAlias a b → ⊥) (left : IsList (const_parts_of a)) (right : IsList (const_parts_of b))
+    (ea : n ≡ count (const_parts_of a)) (eb : n ≡ count (const_parts_of b)) where
+  const_part_asks : AreOfOneConst a b → (q : Constraint) →
+      FrontAskSince c (const_head_of a) v n (const_parts_of a) (const_parts_of b) after q → AskSince c after q v a b
+  const_part_asks (values {t} {u} {v = x} {w = y} d e same) q f =
+      subst₂ (AskSince c after q v) (sym d) (sym e) (values_since c after q v t u f.0 x y same
+      (subst (λ z. IsList (const_parts_of z)) d left) (subst (λ z. IsList (const_parts_of z)) e right)
+      (subst (λ z. f.0 < z) (ea ∙ ap (λ z. count (const_parts_of z)) d) f.1)
+      (subst (λ z. f.0 < z) (eb ∙ ap (λ z. count (const_parts_of z)) e) f.1)
+      (subst₂ (λ z w. AskSince c after q (part_at c (const_head_of z) f.0 v) (nth f.0 (const_parts_of z))
+      (nth f.0 (const_parts_of w))) d e f.2))
+  const_part_asks (expressions {k} {ts} {us} d e m) q f =
+      subst₂ (AskSince c after q v) (sym d) (sym e) (form_asks_since c after q v (expression k) (expression k) ts us f.0
+      (subst (λ z. IsList (const_parts_of z)) d left) (subst (λ z. IsList (const_parts_of z)) e right)
+      (subst₂ (λ x y. HaveAlias x y → ⊥) d e none) tt refl
+      (subst (λ z. f.0 < z) (ea ∙ ap (λ z. count (const_parts_of z)) d) f.1)
+      (subst (λ z. f.0 < z) (eb ∙ ap (λ z. count (const_parts_of z)) e) f.1)
+      (subst₂ (λ z w. AskSince c after q (part_at c (const_head_of z) f.0 v) (nth f.0 (const_parts_of z))
+      (nth f.0 (const_parts_of w))) d e f.2))
+  const_part_asks (over_arguments d e m) q f = absurd (none (inl (subst IsAlias (sym d) tt)))
+  const_part_asks (one_const_leaf d e) q f =
+      let l = f.1 in let o : n ≡ 0 = ea ∙ ap (λ z. count (const_parts_of z)) d in absurd (omega (arith, l, o))
+  const_part_asks (const_parameters d e p) q f =
+      let l = f.1 in let o : n ≡ 0 = ea ∙ ap (λ z. count (const_parts_of z)) d in absurd (omega (arith, l, o))
+
+  pub const_no_more : AreOfOneConst a b →
+      FrontAsksNoMore g c before after (const_head_of a) v n (const_parts_of a) (const_parts_of b) →
+      AsksNoMore g c before after v a b
+  const_no_more o f = parts_no_more g c before after v (const_head_of a) n a b (const_parts_of a) (const_parts_of b)
+      (const_part_asks o) (λ k. built_const_parts k a) (λ k. built_const_parts k b) f
 
 -- A region stands for itself.
 pub region_stays : (st : Store) → IsSound st → (r : Tree) → sort_of r ≡ region_sort → apply (resolved st) r ≡ r
@@ -198,3 +283,40 @@ pub leads_read : (g : Settings) (c : Items) (st : Store) (v : Variance) (a b u w
     IsReadAs st b w → LeadsAsking g c st st v a b v u w
 leads_read g c st v a b u w p o = λ k gone ha hb all. (refl, λ q now l s asks.
     subst₂ (AsksFor c (a_constraint q) v) (sym (reads_since st now l s a u p)) (sym (reads_since st now l s b w o)) asks)
+
+-- A pair was left that comes to what the two come to.
+pub leads_alike : (g : Settings) (c : Items) (before after : Store) (v w : Variance) (a b x y : Tree) →
+    after.constraints ≡ before.constraints → ((st : Store) → IsLater after st → IsSound st →
+    (apply (resolved st) x ≡ apply (resolved st) a) × (apply (resolved st) y ≡ apply (resolved st) b)) →
+    ((q : Constraint) (st : Store) → IsSound st →
+    AsksFor c (a_constraint q) w (apply (resolved st) a) (apply (resolved st) b) →
+    AsksFor c (a_constraint q) v (apply (resolved st) a) (apply (resolved st) b)) →
+    LeadsAsking g c before after v a b w x y
+leads_alike g c before after v w a b x y e same to = λ k gone ha hb all. (e, λ q st later sound asks.
+    let z = same st later sound in to q st sound (subst₂ (AsksFor c (a_constraint q) w) z.0 z.1 asks))
+
+-- So where a variable that the one was read as was bound, and the other is left with the term.
+pub bound_since : (before after st : Store) → IsLater before after → IsLater after st → IsSound st → (a : Tree) (k : VarKind)
+    (n : ℕ) (t : Tree) → IsReadAs before a (leaf (variable k n)) → entry_of after k n ≡ bound_to t →
+    apply (resolved st) t ≡ apply (resolved st) a
+bound_since before after st early later sound a k n t read e =
+    sym (reads_since after st later sound (leaf (variable k n)) t (by_binding k n refl e (itself refl)))
+    ∙ sym (reads_since before st (later_through early later) sound a (leaf (variable k n)) read)
+
+-- Generalising a term, and binding a variable to it, records no constraint.
+generalised_constraints : {g : StructurallyRelateAliases} {c : Items} {start : Store} {k : VarKind} {n : ℕ} {turn : Turn}
+    {r q : Stage} {t x : Tree} → Generalised g c start k n turn r t q x → (q.store).constraints ≡ (r.store).constraints
+generalised_constraints (met_before s h) = refl
+generalised_constraints (met_first s new f e m) = ap (λ z. z.constraints) e ∙ generalised_constraints f
+generalised_constraints (no_type s f) = generalised_constraints f
+generalised_constraints (stays o h) = refl
+generalised_constraints (gives_way o n h f m) = f.same_constraints
+generalised_constraints (alias_gives_way e h f m) = f.same_constraints
+generalised_constraints (by_parts i f) = generalised_constraints f
+generalised_constraints (in_binder f) = generalised_constraints f
+generalised_constraints no_parts = refl
+generalised_constraints (next_part f g) = generalised_constraints g ∙ generalised_constraints f
+
+pub bound_constraints : {g : StructurallyRelateAliases} {c : Items} {before after : Store} {v : Variance} {k : VarKind} {n : ℕ}
+    {source term : Tree} → InstantiatesBy g c before after v k n source term → after.constraints ≡ before.constraints
+bound_constraints f = ((f.binds).writes).same_constraints ∙ generalised_constraints f.generalised
