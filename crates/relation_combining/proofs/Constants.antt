@@ -147,8 +147,8 @@ part_asked : {c : Items} {z : Wanted} {h k : Head} {a b ts us : Tree} (v v' : Va
     Fits (head_parts h) ts → AsksFor c z (part_at c h i v) (nth i ts) (nth i us) → ((w : Variance) (s : Sort) →
     IsConstantSort s → IsTerm s (nth i ts) → part_at c h i v ≢ Bivariant → w ≢ Bivariant →
     AsksFor c z w (nth i ts) (nth i us)) → PartsStay c h (head_parts h) v v' → AsksFor c z v' a b
-part_asked {c = c} {z = z} {ts = ts} {us = us} v v' i d g o rh pl l j f r again (inl same) =
-    of_parts i d g o rh pl l j (subst (λ w. AsksFor c z w (nth i ts) (nth i us)) (same i) r)
+part_asked {c = c} {z = z} {ts = ts} {us = us} v v' i d g o rh pl l j f r again (inl x) =
+    of_parts i d g o rh pl l j (subst (λ w. AsksFor c z w (nth i ts) (nth i us)) (x i) r)
 part_asked {c = c} {h = h} {ts = ts} v v' i d g o rh pl l j f r again (inr p) =
     let t = constant_nth (head_parts h) p.0 ts f i l in
     of_parts i d g o rh pl l j (again (part_at c h i v') t.sort t.constant t.fits (p.1 i) (p.2 i))

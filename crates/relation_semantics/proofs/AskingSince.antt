@@ -1,12 +1,12 @@
 -- Nothing is recorded but what two terms ask for by what they come to: one piece of work after another, part by part.
-use Rattle.std.proofs.Common.{◌≡◌, ◌⊎◌, ℕ, zero, suc, ◌<◌, refl, sym, ap, ◌∙◌, inl, inr, subst, subst₂, arith, List, []}
-use Rattle.std.proofs.Common.{◌∷◌, ◌++◌, All, append_assoc, IsTrue, true, false, Some}
+use Rattle.std.proofs.Common.{◌≡◌, ◌⊎◌, ℕ, suc, ◌<◌, refl, sym, ap, ◌∙◌, inl, inr, subst, subst₂, arith, List, []}
+use Rattle.std.proofs.Common.{◌∷◌, ◌++◌, append_assoc, false, true, Some}
 use Rattle.std.proofs.lemmas.Bool.{false≢true}
 use Rattle.std.proofs.lemmas.List.{append-nil}
 use Rattle.std.proofs.lemmas.List.Elements.{All-nil, All-append, All-cons}
 use Rattle.term_enums.specs.declared.StructurallyRelateAliases.{StructurallyRelateAliases}
 use Rattle.term_enums.specs.declared.Variance.{Variance}
-use Rattle.relation_terms.specs.Heads.{VarKind, region_sort, region_var, var_sort, Head, variable, bound, placeholder, atom}
+use Rattle.relation_terms.specs.Heads.{VarKind, region_sort, region_var, Head, variable, bound, placeholder, atom}
 use Rattle.relation_terms.specs.Heads.{unknown, value, value_type, value_branch, expression}
 use Rattle.relation_terms.specs.Trees.{Tree, leaf, node, bind, nil, cons, apply, IsList, count, nth}
 use Rattle.relation_semantics.specs.Relation.{Items, part_at, plain, IsRelatedHead, IsAlias, sort_of}
@@ -14,7 +14,7 @@ use Rattle.relation_semantics.specs.Settings.{Settings, DefersAliases}
 use Rattle.relation_semantics.specs.Stores.{Store, Constraint, IsSound, bound_to, entry_of, entry_term, resolved}
 use Rattle.relation_semantics.specs.Goals.{Goal}
 use Rattle.relation_semantics.specs.Steps.{IsLater, HasNoBinder}
-use Rattle.relation_semantics.specs.Alphabets.{Alphabet, IsBuiltOf, BindsBuiltOf, StaysBuilt, BuiltFrom}
+use Rattle.relation_semantics.specs.Alphabets.{Alphabet, IsBuiltOf, StaysBuilt, BuiltFrom}
 use Rattle.relation_semantics.specs.Errors.{IsReadAs, itself, by_binding, IsDeferred, AreOfOneForm, over_parts, over_aliases, one_leaf, parameters}
 use Rattle.relation_semantics.specs.Errors.{AreOfOneConst, AreOfOneValue, values, expressions, over_arguments, one_const_leaf}
 use Rattle.relation_semantics.specs.Errors.{const_parameters, one_value, as_many_branches}
@@ -89,23 +89,23 @@ no_more_same g c before after v a b e = λ k gone ha hb all.
 pub no_more_led : (g : Settings) (c : Items) (before middle after : Store) (v w : Variance) (a b x y : Tree) (gs : List Goal) →
     IsLater middle after → LeadsAsking g c before middle v a b w x y → StaysBuilt before middle gs a b →
     BuiltFrom before a b x y → AsksNoMore g c middle after w x y → AsksNoMore g c before after v a b
-no_more_led g c before middle after v w a b x y gs later led stays from rest = λ k gone ha hb all.
+no_more_led g c before middle after v w a b x y gs later led built from rest = λ k gone ha hb all.
     let l = led k gone ha hb all in
     let z = from k ha hb all in
     adds_then (λ q. AskSince c after q v a b)
     (adds_same (λ q. AskSince c after q v a b) before.constraints middle.constraints l.0)
     (adds_as (λ q. AskSince c after q w x y) (λ q. AskSince c after q v a b)
-    (λ q f st m h. l.1 q st (later_through later m) h (f st m h)) (rest k gone z.0 z.1 (stays k ha hb all).binds))
+    (λ q f st m h. l.1 q st (later_through later m) h (f st m h)) (rest k gone z.0 z.1 (built k ha hb all).binds))
 
 -- Two steps, one after the other.
 pub leads_then : (g : Settings) (c : Items) (before middle after : Store) (v w u : Variance) (a b x y s t : Tree)
     (gs : List Goal) → IsLater middle after → LeadsAsking g c before middle v a b w x y →
     StaysBuilt before middle gs a b → BuiltFrom before a b x y → LeadsAsking g c middle after w x y u s t →
     LeadsAsking g c before after v a b u s t
-leads_then g c before middle after v w u a b x y s t gs later f stays from h = λ k gone ha hb all.
+leads_then g c before middle after v w u a b x y s t gs later f built from h = λ k gone ha hb all.
     let l = f k gone ha hb all in
     let z = from k ha hb all in
-    let m = h k gone z.0 z.1 (stays k ha hb all).binds in
+    let m = h k gone z.0 z.1 (built k ha hb all).binds in
     (m.0 ∙ l.0, λ q st o o'. λ asks. l.1 q st (later_through later o) o' (m.1 q st o o' asks))
 
 -- None of the parts was related, and one more.
@@ -118,14 +118,14 @@ pub front_next : (g : Settings) (c : Items) (before middle after : Store) (h : H
     (gs : List Goal) → IsLater middle after → StaysBuilt before middle gs xs ys →
     BuiltFrom before xs ys (nth i xs) (nth i ys) → FrontAsksNoMore g c before middle h v i xs ys →
     AsksNoMore g c middle after (part_at c h i v) (nth i xs) (nth i ys) → FrontAsksNoMore g c before after h v (suc i) xs ys
-front_next g c before middle after h v i xs ys gs later stays from front part = λ k gone ha hb all.
+front_next g c before middle after h v i xs ys gs later built from front part = λ k gone ha hb all.
     let z = from k ha hb all in
     adds_then (λ q. FrontAskSince c h v (suc i) xs ys after q)
     (adds_as (λ q. FrontAskSince c h v i xs ys middle q) (λ q. FrontAskSince c h v (suc i) xs ys after q) on
     (front k gone ha hb all))
     (adds_as (λ q. AskSince c after q (part_at c h i v) (nth i xs) (nth i ys))
     (λ q. FrontAskSince c h v (suc i) xs ys after q) (λ q f. (i, omega arith, f))
-    (part k gone z.0 z.1 (stays k ha hb all).binds))
+    (part k gone z.0 z.1 (built k ha hb all).binds))
   where
     on : (q : Constraint) → FrontAskSince c h v i xs ys middle q → FrontAskSince c h v (suc i) xs ys after q
     on q p = let l = p.1 in (p.0, omega (arith, l), since_later c q (part_at c h p.0 v) (nth p.0 xs) (nth p.0 ys) middle after later p.2)
