@@ -65,7 +65,7 @@ answered_alone_in {X = X} aliases state old new over tree e v a b goals x h =
     just p o = (o.0, ⊎_elim (λ q. q) (λ q. let c : (q.0).0 < 0 = (q.0).1 in absurd (omega (arith, c))) o.1)
 
 -- What is recorded of an error with another type, where a fault is told and where none is.
-module _ {S Key Id Name A X : Type 0} (aliases : StructurallyRelateAliases) (state : S → Context Key Id Name)
+module _ {S Key Id Name A : Type 0} (aliases : StructurallyRelateAliases) (X : Type 0) (state : S → Context Key Id Name)
     (old new : S) (over : Option Head) (tree : Meaning Key Id Name → A → Tree) (e : ParamEnvKey Key) (v : Variance)
     (a b : A) where
   pub refused_taints : (hs : List (Goal Key (PredicateKey Key))) (f : RelateFault Key Id Name)
@@ -76,6 +76,9 @@ module _ {S Key Id Name A X : Type 0} (aliases : StructurallyRelateAliases) (sta
   refused_taints hs f res is h = subst (TaintsForError state old new over tree a b) (sym is)
       (λ differ s t x y i j n m o. ((h.1 tt refl differ s t x y i j n m o).0, tt))
 
+module _ {S Key Id Name A X : Type 0} (aliases : StructurallyRelateAliases) (state : S → Context Key Id Name)
+    (old new : S) (over : Option Head) (tree : Meaning Key Id Name → A → Tree) (e : ParamEnvKey Key) (v : Variance)
+    (a b : A) where
   pub answered_taints : (goals : Vec (Goal Key (PredicateKey Key))) (x : X) →
       RelatesAtOnce solver_manner (solving_in aliases [] (state old) v e) (solving_in aliases goals.items (state new) v e) v
       (term_in (state old) over tree a) (term_in (state old) over tree b) (Ok x) →

@@ -299,7 +299,7 @@ pub returns-in_err-related-clause-taints : goal.returns-in_err-related-clause-ta
 returns-in_err-related-clause-taints g c =
     let s = g.Infcx.InferCtxtLike.state c.args.infcx.now in
     let f = c.in_err-related.field-0.0 in
-    refused_taints c.args.aliases g.Infcx.InferCtxtLike.state c.args.infcx.now c.relate_in-related.new.infcx g.T.Relate.over
+    refused_taints c.args.aliases ⊥ g.Infcx.InferCtxtLike.state c.args.infcx.now c.relate_in-related.new.infcx g.T.Relate.over
     g.T.HasTree.tree c.args.param_env c.args.variance c.args.lhs c.args.rhs c.relate_in-related.result.1.items
     f c.from_residual.result (as_err c.from_residual.result f c.from_residual.ensures.0 c.from_residual.ensures.1)
     (subst (RelatesAtOnce solver_manner (solving_in c.args.aliases [] s c.args.variance c.args.param_env)
