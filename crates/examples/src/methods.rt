@@ -1,7 +1,8 @@
 //! The smallest table of methods, and which of them may be for a type.
-ghost use Rattle.std.specs.Prelude.{IsTrue, IfOk};
+ghost use Rattle.std.specs.Prelude.{◌⊎◌, Contains, IsTrue, IfOk};
 ghost use Rattle.relation_terms.specs.Trees.{known};
 ghost use Rattle.relation_terms.specs.Meaning.{Extends};
+ghost use Rattle.relation_methods.specs.Methods.{AreApart};
 
 use reference_interner::{RefInterner, SymbolId};
 use relation_methods::MethodTable;
@@ -14,8 +15,8 @@ use std::test::Fail;
 /// A type under a binder of what a method, or an impl, is generic over.
 type GenericTy<I> = Binder<<I as Keys>::Key, Ty<I>>;
 
-/// The numbers of those of two methods that may be for a type: of the first, which is for one type, and of the second,
-/// which is for another.
+/// The numbers of those of two methods that may be for a type: 1 of the first, which is for one type, and 2 of the
+/// second, which is for another. One that is left out is for no instance of the type.
 pub fn methods_for<I: Interner>(
     cx: &I,
     first: GenericTy<I>,
@@ -25,6 +26,8 @@ pub fn methods_for<I: Interner>(
     requires first_known { IsTrue (known ((I.meaning cx.now).ty first.value)) }
     requires second_known { IsTrue (known ((I.meaning cx.now).ty second.value)) }
     requires ty_known { IsTrue (known ((I.meaning cx.now).ty ty.now)) }
+    ensures first { IfOk result (λ v. Contains v.items 1 ⊎ AreApart (I.meaning cx.now) first.value ty.now) }
+    ensures second { IfOk result (λ v. Contains v.items 2 ⊎ AreApart (I.meaning cx.now) second.value ty.now) }
 {
     let mut table = MethodTable::new(cx.alloc());
     table.insert(cx, first, 1)?;

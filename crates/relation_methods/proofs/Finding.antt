@@ -1,11 +1,13 @@
 -- What a table finds for a type stands in the order of insertion, and what it leaves out is apart from the type.
 use Rattle.std.proofs.Common.{◌≡◌, ◌⊎◌, ◌<◌, ℕ, zero, suc, Bool, true, false, cond, List, [], ◌∷◌, ◌++◌, Option, Some, None}
-use Rattle.std.proofs.Common.{refl, sym, ap, ◌∙◌, subst, inl, inr, arith, length, get_or, Contains, IsTrue}
+use Rattle.std.proofs.Common.{refl, sym, ap, ◌∙◌, subst, inl, inr, arith, map, length, get_or, Contains, IsTrue}
 use Rattle.std.specs.List.{filter}
 use Rattle.std.proofs.Math.Path.{fun_ext}
+use Rattle.std.proofs.lemmas.List.{get_or-map, length-map}
 use Rattle.std.proofs.lemmas.List.Elements.{All-contains, All-push}
 use Rattle.relation_terms.specs.Trees.{known}
 use Rattle.relation_terms.specs.Meaning.{Meaning, Extends}
+use Rattle.relation_terms.specs.declared.terms.binder.Binder.{Binder}
 use Rattle.relation_terms.specs.declared.terms.ids.DefId.{DefId}
 use Rattle.relation_terms.specs.declared.terms.keys.TyKey.{TyKey}
 use Rattle.fast_reject.specs.HeadKeys.{head_key, numbered, numbered_key}
@@ -110,3 +112,22 @@ left_out_apart {C} {Key} {Id} {Name} {E} meaning eq unlike same cx t key xs ys z
     subst (λ l. LeavesOutApart (meaning cx) t ys l)
     (sym (h ∙ ap (filter (λ (e : MethodEntry Key Id E). is_found eq key e.key)) e))
     (leaves_out_apart meaning eq unlike same cx t key ys keyed i)
+
+-- An entry is found by its value, among the values of what is found, or its type is apart. `of` and `value` are what was
+-- inserted.
+module _ {Key Id Name E : Type 0} (m : Meaning Key Id Name) (t : TyKey Key) (es found : List (MethodEntry Key Id E))
+    (values : List E) where
+  abbrev value_of : MethodEntry Key Id E → E
+  value_of e = e.value
+
+  value_in : (e : MethodEntry Key Id E) → Contains found e → Contains (map value_of found) e.value
+  value_in e c = (c.0, subst (λ n. c.0 < n) (sym (length-map found value_of)) c.1,
+      get_or-map value_of found c.0 e e.value c.1 ∙ ap value_of c.2)
+
+  pub value_found : (of : Binder Key (TyKey Key)) (value : E) (e : MethodEntry Key Id E) → LeavesOutApart m t es found →
+      Contains es e → e.of ≡ of → e.value ≡ value → values ≡ map value_of found →
+      Contains values value ⊎ AreApart m of.value t
+  value_found of value e leaves c o v h = elim (leaves e c) [
+    | inl k ↦ inl (subst (λ x. Contains values x) v (subst (λ xs. Contains xs e.value) (sym h) (value_in e k)))
+    | inr k ↦ inr (subst (λ (b : Binder Key (TyKey Key)). AreApart m b.value t) o k)
+  ]

@@ -1,6 +1,7 @@
-use Rattle.std.proofs.Common.{map, ap, ◌∙◌, arith}
+use Rattle.std.proofs.Common.{map, ap, sym, ◌∙◌, arith}
 use Rattle.std.proofs.lemmas.List.{take_all}
-use Rattle.text_coherence.proofs.Finding.{all_found, named_more, mapped_twice}
+use Rattle.std.proofs.lemmas.Simd.{map-map}
+use Rattle.text_coherence.proofs.Finding.{all_found, named_more}
 use Rattle.text_coherence.proofs.methods.find_methods.Goals as goal
 
 pub loop-entry-preserved : goal.loop-entry-preserved
@@ -18,5 +19,5 @@ returns g c =
     record {
       no_loss = all_found (g.I.Interner.meaning c.args.cx.now) c.args.ty.now c.args.methods.now c.in_ok-table.table
           (map (λ r. r.now) found) l.names.items c.in_ok-table.ensures.holds c.in_ok-found.ensures.no_loss
-          (l.invariant ∙ ap (map (λ r. (r.now).value)) all ∙ mapped_twice found (λ r. r.now) (λ e. e.value));
+          (l.invariant ∙ ap (map (λ r. (r.now).value)) all ∙ sym (map-map (λ e. e.value) (λ r. r.now) found));
     }
