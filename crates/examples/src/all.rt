@@ -13,7 +13,11 @@ use relation_terms::terms::{
 use std::test::Fail;
 
 /// The region parameter of an index.
-pub(crate) fn make_region<I: Interner>(cx: &mut I, index: u32, name: I::Name) -> Result<Region<I>, OutOfMemory>
+pub(crate) fn make_region<I: Interner>(
+    cx: &mut I,
+    index: u32,
+    name: I::Name,
+) -> Result<Region<I>, OutOfMemory>
     ensures grown { Extends (I.meaning cx.old) (I.meaning cx.new) }
     ensures sure { IfOk result (λ k. IsTrue (known ((I.meaning cx.new).region k))) }
 {
