@@ -121,8 +121,11 @@ module _ {Key Id Name E : Type 0} (m : Meaning Key Id Name) (t : TyKey Key) (es 
   value_of e = e.value
 
   value_in : (e : MethodEntry Key Id E) → Contains found e → Contains (map value_of found) e.value
-  value_in e c = (c.0, subst (λ n. c.0 < n) (sym (length-map found value_of)) c.1,
-      get_or-map value_of found c.0 e e.value c.1 ∙ ap value_of c.2)
+  value_in e c = (
+    c.0,
+    subst (λ n. c.0 < n) (sym (length-map found value_of)) c.1,
+    get_or-map value_of found c.0 e e.value c.1 ∙ ap value_of c.2,
+  )
 
   pub value_found : (of : Binder Key (TyKey Key)) (value : E) (e : MethodEntry Key Id E) → LeavesOutApart m t es found →
       Contains es e → e.of ≡ of → e.value ≡ value → values ≡ map value_of found →
