@@ -1,5 +1,6 @@
 pub mod Columns
 pub mod Found
+pub mod Searching
 pub mod Paths
 pub mod Widened
 pub mod Forcing
