@@ -1,18 +1,19 @@
 -- A search: how it begins, and what stays while it goes on.
 use borrow.Author.Count.{below_more}
-use Rattle.std.proofs.Common.{◌≡◌, ℕ, ◌<◌, ◌≤◌, ◌+◌, ◌-◌, ◌*◌, List, [], ◌∷◌, length, get_or, arith, sym, ◌∙◌, ap, refl, subst}
+use Rattle.std.proofs.Common.{◌≡◌, ℕ, ◌<◌, ◌≤◌, ◌+◌, ◌-◌, List, [], ◌∷◌, ◌++◌, length, get_or, arith, sym, ◌∙◌, ap, refl, subst}
 use Rattle.std.proofs.Common.{inl, inr, Option, Some, None, IsSome, is_some, cond, replicate}
 use Rattle.std.specs.List.{count_by}
 use Rattle.std.proofs.Math.ListN.{set}
 use Rattle.std.proofs.lemmas.Bool.{cases_eq, cases_lt}
-use Rattle.std.proofs.lemmas.List.{get_or-set_same, get_or-set_other, get_or-replicate, get_or_past}
+use Rattle.std.proofs.lemmas.List.{get_or_append_left, get_or-set_same, get_or-set_other, get_or-replicate, get_or_past}
 use Rattle.std.proofs.lemmas.List.{length-set, length-replicate}
 use Rattle.std.proofs.lemmas.List.Folds.{sum_by-replicate}
 use Rattle.relation_regions.specs.declared.graph.Graph.{Graph}
 use Rattle.relation_regions.specs.declared.search.Search.{Search}
 use Rattle.relation_regions.specs.Graphs.{IsGraph, IsLatest}
 use Rattle.relation_regions.specs.Searches.{HasFound, Keeps, IsFound, HasPredecessors}
-use Rattle.relation_regions.proofs.Found.{count_more}
+use Rattle.relation_regions.proofs.Columns.{length_more}
+use Rattle.relation_regions.proofs.Found.{count_more, placed_kept}
 
 -- The target alone has a place.
 module _ (count target : ℕ) (lt : target < count) where
@@ -80,6 +81,21 @@ keeps_on s t u a b = record {
   nodes = λ k lt. b.nodes k (omega (arith, lt, a.longer)) ∙ a.nodes k lt;
   places = λ x h. b.places x (a.places x h);
 }
+
+-- One more node was found.
+module _ (s t : Search) (x len : ℕ) (lt : x < length s.places.items)
+    (placed : t.places.items ≡ set s.places.items x (Some len)) where
+  pub kept_more : t.nodes.items ≡ s.nodes.items ++ x ∷ [] → Keeps s t
+  kept_more added = record {
+    longer = omega (arith, ap (λ (l : List ℕ). length l) added ∙ length_more s.nodes.items x);
+    nodes = λ k q. ap (λ l. get_or l k 0) added ∙ get_or_append_left s.nodes.items (x ∷ []) 0 k q;
+    places = λ y h. subst (λ (l : List (Option ℕ)). IsSome (get_or l y None)) (sym placed)
+        (placed_kept s.places.items x len lt y h);
+  }
+
+  pub found_now : (y : ℕ) → y ≡ x → IsFound t y
+  found_now y e = subst (λ z. IsFound t z) (sym e) (ap (λ l. is_some (get_or l x None)) placed ∙
+      ap is_some (get_or-set_same s.places.items x (Some len) None lt))
 
 module _ (g : Graph) (graph : IsGraph g) where
   -- The latest edge to a node leads to it, and none behind that does.
