@@ -14,7 +14,7 @@ loop-pair-preserved c =
     let h = c.loop-pair.invariant.extends in
     let after = c.in_ok-add.ensures in
     let a = c.index.result.now in
-    let b = c.index-2.result.now in
+    let b = c.index-in-loop-pair.result.now in
     let lt : i < length p.shorter.items = omega arith in
     let lt_longer : i < length p.longer.items = omega (arith, lt, c.requires.pairs.each_longer) in
     record {
@@ -23,5 +23,5 @@ loop-pair-preserved c =
       has = pairs_more c.args.graph.now c.loop-pair.graph c.add.new.self i a b h after.graph after.nodes
           after.added_from after.added_to p c.loop-pair.invariant.has
           (c.index.ensures ∙ get_or_default_zero p.longer.items i a lt_longer)
-          (c.index-2.ensures ∙ get_or_default_zero p.shorter.items i b lt);
+          (c.index-in-loop-pair.ensures ∙ get_or_default_zero p.shorter.items i b lt);
     }

@@ -4,7 +4,7 @@ use Rattle.relation_regions.proofs.EdgesAdded.{no_static, extends_more, static_m
 use Rattle.relation_regions.proofs.building.add_static.Goals as goal
 
 pub loop-node-init : goal.loop-node-init
-loop-node-init c = no_static c.args.graph.now c.requires
+loop-node-init c = no_static c.args.graph.now c.requires.graph
 
 pub loop-node-preserved : goal.loop-node-preserved
 loop-node-preserved c =

@@ -16,15 +16,23 @@ returns-in_ok-push-3-clause-search c =
 
 pub returns-in_ok-push-3-clause-keeps : goal.returns-in_ok-push-3-clause-keeps
 returns-in_ok-push-3-clause-keeps c =
-    let in_from : c.args.edge < length c.args.graph.now.from.items = omega arith in
-    kept_more c.args.self.now _ c.index-node.result.now c.len.result (omega arith) refl c.in_ok-push.ensures.items
+    let from = c.args.graph.now.from.items in
+    let node = c.index-node.result.now in
+    let in_from : c.args.edge < length from = omega arith in
+    let at : node ≡ get_or from c.args.edge 0 = c.index-node.ensures ∙ get_or_default_zero from c.args.edge node in_from in
+    let lt : node < length c.args.self.now.places.items =
+    omega (arith, at, c.requires.graph.from_nodes c.args.edge in_from, c.requires.search.all_nodes) in
+    kept_more c.args.self.now _ node c.len.result lt refl c.in_ok-push.ensures.items
 
 pub returns-in_ok-push-3-clause-found : goal.returns-in_ok-push-3-clause-found
 returns-in_ok-push-3-clause-found c =
-    let in_from : c.args.edge < length c.args.graph.now.from.items = omega arith in
-    found_now c.args.self.now _ c.index-node.result.now c.len.result (omega arith) refl
-    (get_or c.args.graph.now.from.items c.args.edge 0) (sym (c.index-node.ensures ∙
-    get_or_default_zero c.args.graph.now.from.items c.args.edge c.index-node.result.now in_from))
+    let from = c.args.graph.now.from.items in
+    let node = c.index-node.result.now in
+    let in_from : c.args.edge < length from = omega arith in
+    let at : node ≡ get_or from c.args.edge 0 = c.index-node.ensures ∙ get_or_default_zero from c.args.edge node in_from in
+    let lt : node < length c.args.self.now.places.items =
+    omega (arith, at, c.requires.graph.from_nodes c.args.edge in_from, c.requires.search.all_nodes) in
+    found_now c.args.self.now _ node c.len.result lt refl (get_or from c.args.edge 0) (sym at)
 
 -- It was found before.
 pub returns-else-is_none-clause-keeps : goal.returns-else-is_none-clause-keeps
@@ -32,9 +40,12 @@ returns-else-is_none-clause-keeps c = keeps_itself c.args.self.now
 
 pub returns-else-is_none-clause-found : goal.returns-else-is_none-clause-found
 returns-else-is_none-clause-found c =
-    let in_from : c.args.edge < length c.args.graph.now.from.items = omega arith in
-    let lt : c.index-node.result.now < length c.args.self.now.places.items = omega arith in
-    subst (λ x. IsFound c.args.self.now x)
-    (c.index-node.ensures ∙ get_or_default_zero c.args.graph.now.from.items c.args.edge c.index-node.result.now in_from)
-    (some_as_read c.args.self.now.places.items c.index-node.result.now c.index.result.now true lt c.index.ensures
+    let from = c.args.graph.now.from.items in
+    let places = c.args.self.now.places.items in
+    let node = c.index-node.result.now in
+    let in_from : c.args.edge < length from = omega arith in
+    let at : node ≡ get_or from c.args.edge 0 = c.index-node.ensures ∙ get_or_default_zero from c.args.edge node in_from in
+    let lt : node < length places =
+    omega (arith, at, c.requires.graph.from_nodes c.args.edge in_from, c.requires.search.all_nodes) in
+    subst (λ x. IsFound c.args.self.now x) at (some_as_read places node c.index.result.now true lt c.index.ensures
     (c.is_none.ensures ∙ ap not c.if-is_none.false))
