@@ -93,9 +93,10 @@ module _ (s t : Search) (x len : ℕ) (lt : x < length s.places.items)
         (placed_kept s.places.items x len lt y h);
   }
 
-  pub found_now : (y : ℕ) → y ≡ x → IsFound t y
-  found_now y e = subst (λ z. IsFound t z) (sym e) (ap (λ l. is_some (get_or l x None)) placed ∙
-      ap is_some (get_or-set_same s.places.items x (Some len) None lt))
+pub found_now : (places : List (Option ℕ)) (x len y : ℕ) → x < length places → y ≡ x →
+    IsSome (get_or (set places x (Some len)) y None)
+found_now places x len y lt e = subst (λ z. IsSome (get_or (set places x (Some len)) z None)) (sym e)
+    (ap is_some (get_or-set_same places x (Some len) None lt))
 
 module _ (g : Graph) (graph : IsGraph g) where
   -- The latest edge to a node leads to it, and none behind that does.

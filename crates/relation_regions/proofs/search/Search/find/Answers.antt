@@ -32,7 +32,7 @@ returns-in_ok-push-3-clause-found c =
     let at : node ≡ get_or from c.args.edge 0 = c.index-node.ensures ∙ get_or_default_zero from c.args.edge node in_from in
     let lt : node < length c.args.self.now.places.items =
     omega (arith, at, c.requires.graph.from_nodes c.args.edge in_from, c.requires.search.all_nodes) in
-    found_now c.args.self.now _ node c.len.result lt refl (get_or from c.args.edge 0) (sym at)
+    found_now c.args.self.now.places.items node c.len.result (get_or from c.args.edge 0) lt (sym at)
 
 -- It was found before.
 pub returns-else-is_none-clause-keeps : goal.returns-else-is_none-clause-keeps
