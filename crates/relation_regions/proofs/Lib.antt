@@ -1,6 +1,5 @@
 pub mod Columns
 pub mod Found
-pub mod Searching
 pub mod Paths
 pub mod Widened
 pub mod Forcing
