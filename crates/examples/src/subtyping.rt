@@ -88,7 +88,7 @@ enum Told {
 }
 
 // How it was.
-fn told<I: Interner>(answer: &Answer<I>) -> Told {
+fn answered<I: Interner>(answer: &Answer<I>) -> Told {
     match answer {
         Some(Ok(Subtyping::Holds(_))) => Told::Yes,
         Some(Ok(Subtyping::Clash(_))) => Told::Clash,
@@ -130,7 +130,7 @@ fn told_of_refs<I: Interner + Drop>(
     let mut ctx = RefCtxt::new(cx, TypingMode::PostAnalysis, true, 0)?;
     let fact = OutlivesPredicate(longer, shorter);
     let answer = ask_subtype(&mut ctx, param_env, lhs, rhs, fact);
-    Ok(told(&answer))
+    Ok(answered::<I>(&answer))
 }
 
 #[test]
