@@ -13,7 +13,7 @@ use crate::all::make_region;
 use context_regions::{RecordedRegions, RegionOutlivesPredicate, is_fact};
 use may_relate::{HasVariables, may_relate};
 use reference_interner::{RefInterner, SymbolId};
-use relation_folds::error::RelateResult;
+use relation_folds::error::{RelateFault, RelateResult};
 use relation_reference::context::RefCtxt;
 use relation_semantics::infer_ctxt::TypingMode;
 use relation_subtyping::{Subtyping, SubtypingOf, decide_subtype};
@@ -74,8 +74,14 @@ pub fn ask_subtype<C: RecordedRegions + HasVariables>(
         return None;
     }
     let span = ctx.cx().dummy_span();
-    let facts = [fact];
-    Some(decide_subtype(ctx, param_env, lhs, Variance::Covariant, rhs, &facts, span))
+    let mut facts = Vec::new(ctx.cx().alloc());
+    match facts.push(fact) {
+        Ok(()) => {
+            let variance = Variance::Covariant;
+            Some(decide_subtype(ctx, param_env, lhs, variance, rhs, &facts, span))
+        }
+        Err(_) => Some(Err(RelateFault::Memory)),
+    }
 }
 
 /// How a question was answered.

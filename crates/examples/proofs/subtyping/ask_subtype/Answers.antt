@@ -1,7 +1,9 @@
 -- What may be asked meets what deciding asks for.
-use Rattle.std.proofs.Common.{rules, IsTrue}
+use Rattle.std.proofs.Common.{[], ◌∷◌, ◌++◌, ◌∙◌, None, rules, ap, sym, subst, All, IsTrue}
 use Rattle.std.proofs.lemmas.List.Elements.{All-cons, All-nil}
+use Rattle.term_enums.specs.declared.Variance.TheVariants.{Covariant}
 use Rattle.context_regions.specs.Solving.{IsFactIn}
+use Rattle.relation_subtyping.specs.Answers.{Decides}
 use Rattle.examples.proofs.subtyping.ask_subtype.Goals as goal
 
 pub decide_subtype-requires-clause-can : goal.decide_subtype-requires-clause-can
@@ -24,4 +26,11 @@ pub decide_subtype-requires-clause-facts_in : goal.decide_subtype-requires-claus
 decide_subtype-requires-clause-facts_in g c =
     let here = IsFactIn (g.C.InferCtxtLike.state c.args.ctx.now) in
     let asked : IsTrue c.may_ask.result = (let i = c.if-not-may_ask.false in search rules) in
-    All-cons here c.args.fact _ (c.may_ask.ensures.fact asked) (All-nil here)
+    let one = c.deref.ensures.value ∙ c.in-Ok.ensures.items ∙ ap (λ z. z ++ c.args.fact ∷ []) c.new-facts.ensures.items in
+    subst (All here) (sym one) (All-cons here c.args.fact [] (c.may_ask.ensures.fact asked) (All-nil here))
+
+pub returns-in-Ok-clause-decides : goal.returns-in-Ok-clause-decides
+returns-in-Ok-clause-decides g c =
+    let one = c.deref.ensures.value ∙ c.in-Ok.ensures.items ∙ ap (λ z. z ++ c.args.fact ∷ []) c.new-facts.ensures.items in
+    subst (λ fs. Decides g.C.InferCtxtLike.state c.args.ctx.now c.decide_subtype.new.ctx fs None (λ m t. m.ty t)
+    c.args.param_env Covariant c.args.lhs c.args.rhs c.decide_subtype.result) one c.decide_subtype.ensures.decides
