@@ -7,5 +7,5 @@ mod reading;
 mod solving;
 
 pub use facts::is_fact;
-pub use recorded_regions::RecordedRegions;
+pub use relation_semantics::recorded_regions::RecordedRegions;
 pub use solving::{RegionOutlivesPredicate, Solved, solve};

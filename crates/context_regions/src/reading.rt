@@ -11,7 +11,7 @@ ghost use Rattle.context_regions.specs.Solving.{IsFactIn, region_pairs};
 
 use crate::numbering::Regions;
 use crate::solving::RegionOutlivesPredicate;
-use recorded_regions::RecordedRegions;
+use relation_semantics::recorded_regions::RecordedRegions;
 use relation_regions::{Pairs, Standing};
 use relation_semantics::infer_ctxt::InferCtxtLike;
 use relation_terms::predicate::{OutlivesPredicate, RegionConstraint};

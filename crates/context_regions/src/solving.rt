@@ -7,7 +7,7 @@ ghost use Rattle.context_regions.specs.Solving.{IsFactIn, IfMet, IfValued, IfUnm
 
 use crate::numbering::Regions;
 use crate::reading::{NumberedPairs, number, read_constraints, read_facts};
-use recorded_regions::RecordedRegions;
+use relation_semantics::recorded_regions::RecordedRegions;
 use relation_regions::Decision;
 use relation_semantics::infer_ctxt::InferCtxtLike;
 use relation_terms::predicate::OutlivesPredicate;

@@ -3,6 +3,7 @@
 #![tactic(auto)]
 
 pub mod infer_ctxt;
+pub mod recorded_regions;
 pub mod relate;
 pub mod variable_forms;
 pub mod variances;

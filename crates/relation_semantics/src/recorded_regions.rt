@@ -1,10 +1,8 @@
 //! Contexts that show what they have recorded of regions.
-#![tactic(auto)]
-
 ghost use Rattle.std.specs.Prelude.{◌≡◌, map};
 ghost use Rattle.relation_semantics.specs.Constraints.{constraint_of};
 
-use relation_semantics::infer_ctxt::InferCtxtLike;
+use crate::infer_ctxt::InferCtxtLike;
 use relation_terms::predicate::RegionConstraint;
 use relation_terms::terms::Keys;
 
