@@ -11,9 +11,9 @@ ghost use Rattle.context_regions.specs.Solving.{IsFactIn, region_pairs};
 
 use crate::numbering::Regions;
 use crate::solving::RegionOutlivesPredicate;
-use relation_semantics::recorded_regions::RecordedRegions;
 use relation_regions::{Pairs, Standing};
 use relation_semantics::infer_ctxt::InferCtxtLike;
+use relation_semantics::recorded_regions::RecordedRegions;
 use relation_terms::predicate::{OutlivesPredicate, RegionConstraint};
 use relation_terms::terms::{GenericArgKind, Interner, Keys, Region, RegionKind};
 use std::alloc::Global;

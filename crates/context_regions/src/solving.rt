@@ -7,9 +7,9 @@ ghost use Rattle.context_regions.specs.Solving.{IsFactIn, IfMet, IfValued, IfUnm
 
 use crate::numbering::Regions;
 use crate::reading::{NumberedPairs, number, read_constraints, read_facts};
-use relation_semantics::recorded_regions::RecordedRegions;
 use relation_regions::Decision;
 use relation_semantics::infer_ctxt::InferCtxtLike;
+use relation_semantics::recorded_regions::RecordedRegions;
 use relation_terms::predicate::OutlivesPredicate;
 use relation_terms::terms::{Interner, Keys, Region, RegionKey, RegionKind};
 use std::alloc::Global;
