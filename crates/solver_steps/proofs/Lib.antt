@@ -1,0 +1,4 @@
+pub mod OpenedRules
+pub mod Fits
+pub mod Unbound
+pub mod Candidates

@@ -1,0 +1,4 @@
+pub mod RuleTerms
+pub mod Fitting
+pub mod Bodies
+pub mod Candidates
