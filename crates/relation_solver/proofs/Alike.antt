@@ -1,8 +1,8 @@
 -- Lists of terms that are one up to erasure, place by place, and lists without one of their elements.
-use Rattle.std.proofs.Common.{◌≡◌, ℕ, List, [], ◌∷◌, refl, sym, ◌∙◌, map, All}
+use Rattle.std.proofs.Common.{◌≡◌, List, [], ◌∷◌, sym, ◌∙◌, map, All}
 use Rattle.std.specs.List.{AllZip}
 use Rattle.std.proofs.lemmas.List.Elements.{All-head, All-tail, All-cons, All-weaker}
-use Rattle.relation_terms.specs.Trees.{Tree, Assign, apply, inst}
+use Rattle.relation_terms.specs.Trees.{Tree, Assign, apply}
 use Rattle.relation_terms.specs.Erasure.{erase}
 use Rattle.relation_semantics.specs.Stores.{Store, InContext}
 use Rattle.relation_semantics.specs.Steps.{AgreeErased, IsLater}

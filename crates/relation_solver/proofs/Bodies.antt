@@ -1,5 +1,5 @@
 -- Terms under binders that bind nothing, unified just where the terms are.
-use Rattle.std.proofs.Common.{◌≡◌, ap, []}
+use Rattle.std.proofs.Common.{ap, []}
 use Rattle.relation_terms.specs.Trees.{Tree, bind, Assign, apply}
 use Rattle.relation_terms.specs.Erasure.{erase}
 use Rattle.relation_terms.proofs.Paths.{bind_path}

@@ -1,7 +1,7 @@
 -- What a solver proves is derived.
-use Rattle.std.proofs.Common.{◌≡◌, ℕ, List, refl, sym, ap, subst, map, All}
+use Rattle.std.proofs.Common.{ℕ, List, refl, ap, subst, map, All}
 use Rattle.term_enums.specs.declared.Variance.TheVariants.{Invariant}
-use Rattle.relation_terms.specs.Trees.{Tree, Assign, apply, inst, Leaves}
+use Rattle.relation_terms.specs.Trees.{Tree, Assign, apply}
 use Rattle.relation_terms.specs.Erasure.{erase}
 use Rattle.relation_semantics.specs.Relation.{Items, Interpretation, Rel, at}
 use Rattle.relation_semantics.specs.Stores.{Store, Satisfies}
@@ -9,7 +9,7 @@ use Rattle.relation_semantics.specs.Goals.{Goal, Holds}
 use Rattle.relation_semantics.specs.FirstOrder.{IsErasedSolution}
 use Rattle.relation_semantics.proofs.Values.{variables_fit}
 use Rattle.relation_solver.specs.Rules.{AreClosed, Rule, Asked, one, all, Derives, derived_by, all_derived, next_derived}
-use Rattle.relation_solver.specs.Traces.{Without, first, later, Opens, Proves, took, none_asked, one_of}
+use Rattle.relation_solver.specs.Traces.{Without, first, later, Proves, took, none_asked, one_of}
 use Rattle.relation_solver.specs.Solving.{ProofsDerive}
 use Rattle.relation_solver.proofs.Alike.{images_without}
 use Rattle.relation_solver.proofs.Opened.{opened_value, opened_values, variables_namable}

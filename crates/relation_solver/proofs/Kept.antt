@@ -1,5 +1,5 @@
 -- A record that was kept, when it is put back.
-use Rattle.std.proofs.Common.{◌≡◌, ℕ, ◌∙◌, subst}
+use Rattle.std.proofs.Common.{◌≡◌, ◌∙◌}
 use Rattle.relation_terms.specs.Meaning.{Extends}
 use Rattle.relation_semantics.specs.Contexts.{Context}
 use Rattle.relation_solver.specs.Records.{SameRecord, IsRecordOf, StandsOn}

@@ -1,16 +1,15 @@
 -- The values of what new variables open.
-use Rattle.std.proofs.Common.{◌≡◌, ℕ, ◌<◌, Bool, true, false, cond, nat_lt, length, arith, List, [], ◌∷◌, refl, sym, ◌∙◌, ap}
-use Rattle.std.proofs.Common.{ap₂, subst, inl, inr, Some, None, map, All, get_or}
+use Rattle.std.proofs.Common.{◌≡◌, ℕ, cond, nat_lt, length, arith, List, [], ◌∷◌, refl, sym, ◌∙◌, ap}
+use Rattle.std.proofs.Common.{ap₂, subst, None, map, All, get_or}
 use Rattle.std.proofs.lemmas.List.Elements.{All-head, All-tail}
 use Rattle.std.proofs.lemmas.Bool.{ltb-true, ltb-false, cond_both}
-use Rattle.relation_terms.specs.Heads.{BoundKind, VarKind, Leaf, variable, bound, placeholder, atom, unknown}
-use Rattle.relation_terms.specs.Trees.{Tree, leaf, node, bind, nil, cons, Assign, assigned, apply, inst, Leaves, Occurs}
+use Rattle.relation_terms.specs.Heads.{BoundKind, VarKind, Leaf, variable}
+use Rattle.relation_terms.specs.Trees.{Tree, Assign, apply, inst, Leaves}
 use Rattle.relation_terms.specs.Erasure.{erase}
-use Rattle.relation_semantics.specs.Relation.{Interpretation, all_outlive, FitKinds, IsValueLeaf, StaysWithin}
+use Rattle.relation_semantics.specs.Relation.{Interpretation, all_outlive, IsValueLeaf, StaysWithin}
 use Rattle.relation_semantics.specs.Stores.{Store, Constraint, outlives_constraint, equal_constraint, ConstraintHolds}
 use Rattle.relation_semantics.specs.Stores.{MayStandFor, IsNamable, IsMade, universe_of, IsAssignment, entry_term}
-use Rattle.relation_semantics.specs.Stores.{Satisfies, IsSound}
-use Rattle.relation_semantics.specs.FirstOrder.{MeetsErased, IsErasedSolution}
+use Rattle.relation_semantics.specs.FirstOrder.{IsErasedSolution}
 use Rattle.relation_semantics.specs.Steps.{AllNamable, AreNewVariables, MakesVariables, AgreeOn}
 use Rattle.relation_semantics.proofs.Trees.{StaysIn, Leaves_map, apply-inst, apply_ground}
 use Rattle.relation_semantics.proofs.StoreCalls.{bindings_are_met}

@@ -1,22 +1,21 @@
 -- What a solver's answers mean, by induction on what it did.
 use Rattle.std.proofs.Common.{◌≡◌, ◌⊎◌, ℕ, List, [], ◌∷◌, refl, sym, ◌∙◌, ap, subst, inl, inr, map, All}
 use Rattle.std.specs.Prelude.{Contains}
-use Rattle.std.proofs.lemmas.List.Elements.{All-contains, All-map}
-use Rattle.relation_terms.specs.Heads.{BoundKind, VarKind}
+use Rattle.std.proofs.lemmas.List.Elements.{All-contains}
 use Rattle.relation_terms.specs.Trees.{Tree, Assign, apply, inst, Leaves}
 use Rattle.relation_terms.specs.Erasure.{erase}
 use Rattle.relation_semantics.specs.Relation.{FitKinds, IsValueLeaf}
-use Rattle.relation_semantics.specs.Stores.{Store, IsMade, IsSound, InContext}
+use Rattle.relation_semantics.specs.Stores.{Store, InContext}
 use Rattle.relation_semantics.specs.FirstOrder.{IsErasedSolution, Unifies}
-use Rattle.relation_semantics.specs.Steps.{AllNamable, MakesVariables, AgreeOn, AgreeErased, HasErasedExtension}
-use Rattle.relation_semantics.specs.Outcomes.{Exact, NoUnifier}
+use Rattle.relation_semantics.specs.Steps.{AllNamable, AgreeOn, AgreeErased, HasErasedExtension}
+use Rattle.relation_semantics.specs.Outcomes.{Exact}
 use Rattle.relation_semantics.proofs.Values.{same_value, variables_fit}
 use Rattle.relation_semantics.proofs.Exactness.{same_erased, erased_through}
 use Rattle.relation_semantics.proofs.StoreCalls.{bindings_are_met}
 use Rattle.relation_semantics.proofs.Trees.{apply_ground}
 use Rattle.relation_solver.specs.Rules.{AreClosed, Rule, IsShadowed, one, all, Follows, by_rule, none_left, and_next}
 use Rattle.relation_solver.specs.Traces.{Without, first, later, Step, goal, goals, rule, rest, Answer, yes, no, Opens}
-use Rattle.relation_solver.specs.Traces.{GivesWay, StandsFirst, Takes, Did, took_alone, took_first, did_none, did_next}
+use Rattle.relation_solver.specs.Traces.{GivesWay, Takes, Did, took_alone, took_first, did_none, did_next}
 use Rattle.relation_solver.specs.Traces.{no_rule, same_rule, other_rule, no_form, no_fit, no_stand, no_asks, no_first}
 use Rattle.relation_solver.specs.Traces.{no_later}
 use Rattle.relation_solver.specs.Solving.{YesIsSound, YesIsPrincipal, NoMeansNone, AllYesAreSound, AllYesArePrincipal}
