@@ -9,7 +9,7 @@ use Rattle.relation_semantics.specs.Outcomes.{Exact, NoUnifier}
 use Rattle.relation_solver.specs.Rules.{Rule}
 use Rattle.relation_solver.specs.Traces.{Without, goal, goals, rule, rest, Answer, yes, no, Did, did_none, did_next}
 use Rattle.relation_solver.specs.Traces.{no_rule, same_rule, other_rule, no_first, no_later, no_fit, no_asks, took_alone}
-use Rattle.relation_solver.specs.Traces.{Opens, StandsFirst, Takes}
+use Rattle.relation_solver.specs.Traces.{Opens, StandsFirst, FollowsBy}
 
 module _ (u : ℕ) (held : List Tree) (rules : List Rule) where
   -- Whatever it answers to the goals that are left, in the record as it is then, it answers to all.
@@ -66,15 +66,7 @@ module _ (u : ℕ) (held : List Tree) (rules : List Rule) where
   pub all_fail : (st : Store) (g : Tree) → AllFail st g rules → Did u held rules st (goal g) no
   all_fail st g f = no_rule st g f
 
-  -- A goal follows by a rule: it was opened and related, and all that it asks for followed.
-  pub record FollowsBy (before after : Store) (r : Rule) (g : Tree) : Type 0 where
-    pub there : Contains rules r
-    pub vars : List Tree
-    pub middle : Store
-    pub takes : Takes u held before middle r vars g
-    pub asks : Did u held rules middle (goals (map (inst vars 0) r.asks)) (yes after)
-
-  pub takes_alone : (before after : Store) (r : Rule) (g : Tree) → FollowsBy before after r g →
+  pub takes_alone : (before after : Store) (r : Rule) (g : Tree) → FollowsBy u held rules before after r g →
       AllOthersFail before r g rules → Did u held rules before (goal g) (yes after)
   takes_alone before after r g f o = took_alone before f.middle after r f.vars g f.there f.takes f.asks o
 
@@ -98,7 +90,7 @@ module _ (u : ℕ) (held : List Tree) (rules : List Rule) where
         (subst (λ z. Did u held rules middle (goals z) no) asks_are d)
 
     pub rule_follows : (middle after : Store) → Contains rules r → Exact opened middle g given →
-        Did u held rules middle (goals asks) (yes after) → FollowsBy before after r g
+        Did u held rules middle (goals asks) (yes after) → FollowsBy u held rules before after r g
     rule_follows middle after c x d = record {
       there = c;
       vars = vars;

@@ -6,6 +6,7 @@
 --   GivesWay held st r xs       whatever an opened rule gives way to the environment has, under each solution of st
 --   StandsFirst held st r xs    or has it under none
 --   Did u held rules st q a     a solver that was asked q in the record st answered a, by these calls and no others
+--   FollowsBy u held rules st st' r g   a goal followed by a rule: st' is recorded then
 --   Proves c e u held rules gs st q st'   a solver that was asked q in st said yes: st' is recorded then, and the goals
 --                                         gs are left
 use Rattle.std.specs.Prelude.{◌≡◌, ℕ, List, [], ◌∷◌, All, Contains, map}
@@ -113,6 +114,15 @@ pub data Did (u : ℕ) (held : List Tree) (rules : List Rule) : Store → Step �
   no_later : (before middle : Store) (g : Tree) (gs hs : List Tree) → Without g gs hs →
       Did u held rules before (goal g) (yes middle) → IsLater before middle →
       Did u held rules middle (goals hs) no → Did u held rules before (goals gs) no
+
+-- A goal follows by a rule: it was opened and related, and all that it asks for followed.
+pub record FollowsBy (u : ℕ) (held : List Tree) (rules : List Rule) (before after : Store) (r : Rule) (g : Tree) :
+    Type 0 where
+  pub there : Contains rules r
+  pub vars : List Tree
+  pub middle : Store
+  pub takes : Takes u held before middle r vars g
+  pub asks : Did u held rules middle (goals (map (inst vars 0) r.asks)) (yes after)
 
 -- The calls by which a solver says yes, where goals may be left: what it relates is related in an environment, at
 -- invariance, under what is recorded then and these goals.

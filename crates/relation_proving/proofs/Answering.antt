@@ -1,0 +1,194 @@
+-- What is told of goals, of lists and of rules, put together.
+use Rattle.std.proofs.Common.{◌≡◌, ℕ, zero, suc, ◌<◌, List, [], ◌∷◌, ◌++◌, refl, sym, ◌∙◌, ap, subst, map, All, length}
+use Rattle.std.proofs.Common.{get_or, take, drop, arith, IsTrue}
+use Rattle.std.specs.Prelude.{Contains, IfOk, Result, Ok, Err}
+use Rattle.std.specs.Global.{Vec}
+use Rattle.std.specs.List.{remove}
+use Rattle.std.proofs.lemmas.List.Elements.{All-append, All-take, All-drop, All-get_or}
+use Rattle.relation_terms.specs.declared.terms.binder.Binder.{Binder}
+use Rattle.relation_terms.specs.declared.terms.keys.ClauseKey.{ClauseKey}
+use Rattle.relation_terms.specs.declared.terms.keys.ClausesKey.{ClausesKey}
+use Rattle.relation_terms.specs.Trees.{Tree, known, inst}
+use Rattle.relation_semantics.specs.Contexts.{Context}
+use Rattle.relation_semantics.specs.Stores.{Store}
+use Rattle.relation_solver.specs.Rules.{Rule}
+use Rattle.relation_solver.specs.Traces.{Without, first, later, Did, goal, goals, rule, yes, no, FollowsBy}
+use Rattle.relation_solver.proofs.Going.{LeavesToAsk, asks_begin, asks_go_on, asks_end, asks_fail}
+use Rattle.relation_solver.proofs.Going.{rule_is_apart, rule_fails, rule_follows}
+use Rattle.relation_proving.specs.declared.candidate.Candidate.{Candidate}
+use Rattle.relation_proving.specs.declared.candidate.Candidate.TheVariants.{Asks, Apart, Unclear}
+use Rattle.relation_proving.specs.declared.told.Told.{Told}
+use Rattle.relation_proving.specs.declared.told.Told.TheVariants.{Yes, No, Maybe}
+use Rattle.relation_proving.specs.declared.searching.Round.{Round}
+use Rattle.relation_proving.specs.declared.searching.Round.TheVariants.{Proved, Failed, Stuck}
+use Rattle.relation_proving.specs.Candidates.{MayAsk, MayTry, AsksFor, GivesNone, TellsCandidate}
+use Rattle.relation_proving.specs.Candidates.{IsFirstOrderAt, IsFirstOrderClause, IsFirstOrderRule}
+use Rattle.relation_proving.specs.Telling.{MayUse, GoesOn, IsBack, IsExact, goal_tree, TellsGoal, TellsAll, TellsRule}
+use Rattle.relation_proving.specs.Telling.{SaysYes, SaysYesToAll, SaysYesBy}
+use Rattle.relation_proving.specs.Searching.{TellsRound}
+use Rattle.relation_proving.proofs.Candidates.{clauses_stay}
+use Rattle.relation_proving.proofs.GoingOn.{goes_itself, goes_through, exact_on, exact_back, ask_on, asks_on, uses_on}
+use Rattle.relation_proving.proofs.GoingOn.{goal_stays, goals_first_order, rule_first_order, back_through, back_goes}
+
+-- A list without the element at a place.
+without_at : {X : Type 0} (f : X → Tree) (xs : List X) (i : ℕ) (x : X) → i < length xs → x ≡ get_or xs i x →
+    Without (f x) (map f xs) (map f (remove xs i))
+without_at f [] i x l e = absurd (omega (arith, l))
+without_at f (y ∷ ys) zero x l e = subst (λ z. Without (f z) (f y ∷ map f ys) (map f ys)) (sym e) first
+without_at f (y ∷ ys) (suc i) x l e = later (without_at f ys i x (omega (arith, l)) e)
+
+module _ {Key Id Name : Type 0} where
+  -- What is told of a goal in a context that is back is told of it in the one before.
+  module _ (c d e : Context Key Id Name) (b : IsBack c d) (ks : List (Binder Key (ClausesKey Key)))
+      (uses : All (MayUse c) ks) (g : ClauseKey Key) (asked : MayAsk c g) where
+    same_goal : goal_tree d g ≡ goal_tree c g
+    same_goal = goal_stays c d (back_goes c d b) g asked
+
+    first_order_then : IsFirstOrderClause (goal_tree c g) → IsFirstOrderClause (goal_tree d g)
+    first_order_then h = subst IsFirstOrderClause (sym same_goal) h
+
+    pub goal_back : (told : Told) → TellsGoal d e ks g told → TellsGoal c e ks g told
+    goal_back Yes t = λ u rs x f.
+        let s = t u rs (exact_back c d b ks u rs uses x) (first_order_then f) in
+        record {
+          did = subst (λ z. Did u [] rs c.store (goal z) (yes e.store)) same_goal
+              (subst (λ z. Did u [] rs z (goal (goal_tree d g)) (yes e.store)) (b.same).store s.did);
+          store = s.store;
+        }
+    goal_back No t = (
+      back_through c d e b t.0,
+      λ u rs x f. subst (λ z. Did u [] rs c.store (goal z) no) same_goal
+          (subst (λ z. Did u [] rs z (goal (goal_tree d g)) no) (b.same).store
+          (t.1 u rs (exact_back c d b ks u rs uses x) (first_order_then f))),
+    )
+    goal_back (Maybe why) t = back_through c d e b t
+
+    pub rule_back : (k : Binder Key (ClausesKey Key)) → MayUse c k → (told : Told) → TellsRule d e ks k g told →
+        TellsRule c e ks k g told
+    rule_back k may Yes t = λ u rs r x f i h.
+        let s = t u rs r (exact_back c d b ks u rs uses x) (rule_first_order c d (back_goes c d b) k r may f) i
+        (first_order_then h) in
+        record {
+          follows = subst (λ z. FollowsBy u [] rs c.store e.store r z) same_goal
+              (subst (λ z. FollowsBy u [] rs z e.store r (goal_tree d g)) (b.same).store s.follows);
+          store = s.store;
+        }
+    rule_back k may No t = λ u rs r x f i h. subst (λ z. Did u [] rs c.store (rule r z) no) same_goal
+        (subst (λ z. Did u [] rs z (rule r (goal_tree d g)) no) (b.same).store
+        (t u rs r (exact_back c d b ks u rs uses x) (rule_first_order c d (back_goes c d b) k r may f) i
+        (first_order_then h)))
+    rule_back k may (Maybe why) t = tt
+
+  -- Of a goal and a rule that was tried, by what is told of what it asks for.
+  module _ (c d e : Context Key Id Name) (k : Binder Key (ClausesKey Key)) (g : ClauseKey Key)
+      (ks : List (Binder Key (ClausesKey Key))) (on : GoesOn c d) (uses : All (MayUse c) ks) where
+    may_try : (u : ℕ) (rs : List Rule) (r : Rule) → IsExact u c ks rs → IsFirstOrderRule c k r →
+        IsFirstOrderClause (goal_tree c g) → MayTry c k g u r
+    may_try u rs r x f h = record { store = x.store; rule = f; goal = h }
+
+    pub by_asks : (asks : Vec (ClauseKey Key)) → TellsCandidate c k g d (Asks asks) → (told : Told) →
+        TellsAll d e ks asks.items told → TellsRule c e ks k g told
+    by_asks asks t Yes h = λ u rs r x f i o.
+        let a = t.1 u r (may_try u rs r x f o) in
+        let s = h u rs (exact_on c d on ks u rs uses a.store x) a.asks_first_order in
+        record {
+          follows = rule_follows u [] rs c.store a.opened r a.vars (goal_tree c g) (inst a.vars 0 r.gives)
+              (map (goal_tree d) asks.items) a.opens (f.is_rule).shadowed_by_none refl a.asks_are d.store e.store i
+              a.exact s.did;
+          store = s.store;
+        }
+    by_asks asks t No h = λ u rs r x f i o.
+        let a = t.1 u r (may_try u rs r x f o) in
+        rule_fails u [] rs c.store a.opened r a.vars (goal_tree c g) (inst a.vars 0 r.gives)
+        (map (goal_tree d) asks.items) a.opens (f.is_rule).shadowed_by_none refl a.asks_are d.store a.exact
+        (h u rs (exact_on c d on ks u rs uses a.store x) a.asks_first_order)
+    by_asks asks t (Maybe why) h = tt
+
+    pub by_apart : TellsCandidate c k g d Apart → TellsRule c d ks k g No
+    by_apart t = λ u rs r x f i o.
+        let a = t u r (may_try u rs r x f o) in
+        rule_is_apart u [] rs c.store a.opened r a.vars (goal_tree c g) (inst a.vars 0 r.gives)
+        (map (inst a.vars 0) r.asks) a.opens (f.is_rule).shadowed_by_none refl refl a.none
+
+    pub by_asks_result : {F : Type 0} (asks : Vec (ClauseKey Key)) → TellsCandidate c k g d (Asks asks) →
+        (result : Result Told F) → IfOk result (TellsAll d e ks asks.items) → IfOk result (TellsRule c e ks k g)
+    by_asks_result asks t (Ok told) h = by_asks asks t told h
+    by_asks_result asks t (Err f) h = tt
+
+  -- What is left to ask of a list, once some of it was proved.
+  module _ (c d : Context Key Id Name) (ks : List (Binder Key (ClausesKey Key))) (asks left : List (ClauseKey Key))
+      (u : ℕ) (rs : List Rule) where
+    pub record Leaves : Type 0 where
+      pub leaves : LeavesToAsk u [] rs c.store (map (goal_tree c) asks) d.store (map (goal_tree d) left)
+      pub store : IsFirstOrderAt u d.store
+      pub first_order : All (λ g. IsFirstOrderClause (goal_tree d g)) left
+
+  pub record AsksOn (c d : Context Key Id Name) (ks : List (Binder Key (ClausesKey Key)))
+      (asks left : List (ClauseKey Key)) : Type 0 where
+    pub goes_on : GoesOn c d
+    pub may_ask : All (MayAsk d) left
+    pub told : (u : ℕ) (rs : List Rule) → IsExact u c ks rs → All (λ g. IsFirstOrderClause (goal_tree c g)) asks →
+        Leaves c d ks asks left u rs
+
+  module _ (c : Context Key Id Name) (ks : List (Binder Key (ClausesKey Key))) (asks : List (ClauseKey Key)) where
+    pub asking_begins : c.lawful → All (MayAsk c) asks → AsksOn c c ks asks asks
+    asking_begins l h = record {
+      goes_on = goes_itself c l;
+      may_ask = h;
+      told = λ u rs x f. record {
+        leaves = asks_begin u [] rs c.store (map (goal_tree c) asks);
+        store = x.store;
+        first_order = f;
+      };
+    }
+
+    pub asking_ends : (d : Context Key Id Name) → AsksOn c d ks asks [] → TellsAll c d ks asks Yes
+    asking_ends d a = λ u rs x f.
+        let l = a.told u rs x f in
+        record {
+          did = asks_end u [] rs c.store d.store (map (goal_tree c) asks) l.leaves;
+          store = l.store;
+        }
+
+    module _ (d e : Context Key Id Name) (left : List (ClauseKey Key)) (uses : All (MayUse c) ks)
+        (a : AsksOn c d ks asks left) (on : GoesOn d e) where
+      exact_then : (u : ℕ) (rs : List Rule) → IsExact u c ks rs → IsFirstOrderAt u d.store → IsExact u d ks rs
+      exact_then u rs x s = exact_on c d a.goes_on ks u rs uses s x
+
+      is_goal : (i : ℕ) (g : ClauseKey Key) → i < length left → g ≡ get_or left i g → (P : ClauseKey Key → Type 0) →
+          All P left → P g
+      is_goal i g l q P h = subst P (sym q) (All-get_or P left i g l h)
+
+      others : (i : ℕ) (P : ClauseKey Key → Type 0) → All P left → All P (remove left i)
+      others i P h = All-append P (take i left) (drop (suc i) left) (All-take P i left h) (All-drop P (suc i) left h)
+
+      pub asking_goes_on : (i : ℕ) → TellsRound d e ks left (Proved i) → AsksOn c e ks asks (remove left i)
+      asking_goes_on i t =
+          let may = others i (MayAsk d) a.may_ask in
+          record {
+            goes_on = goes_through c d e a.goes_on on;
+            may_ask = asks_on d e on (remove left i) may;
+            told = λ u rs x f.
+                let l = a.told u rs x f in
+                let s = t.1.2 u rs (exact_then u rs x l.store) (is_goal i t.1.0 t.0 t.1.1
+                (λ g. IsFirstOrderClause (goal_tree d g)) l.first_order) in
+                record {
+                  leaves = subst (LeavesToAsk u [] rs c.store (map (goal_tree c) asks) e.store)
+                      (sym (clauses_stay d.meaning e.meaning on.grown (remove left i) (λ j x m. (may j x m).is_known)))
+                      (asks_go_on u [] rs c.store d.store e.store (map (goal_tree c) asks) (map (goal_tree d) left)
+                      (map (goal_tree d) (remove left i)) (goal_tree d t.1.0) l.leaves
+                      (without_at (goal_tree d) left i t.1.0 t.0 t.1.1) s.did on.later);
+                  store = s.store;
+                  first_order = goals_first_order d e on (remove left i) may
+                      (others i (λ g. IsFirstOrderClause (goal_tree d g)) l.first_order);
+                };
+          }
+
+      pub asking_fails : TellsRound d e ks left Failed → TellsAll c e ks asks No
+      asking_fails t = λ u rs x f.
+          let l = a.told u rs x f in
+          asks_fail u [] rs c.store d.store (map (goal_tree c) asks) (map (goal_tree d) left)
+          (map (goal_tree d) (remove left t.0)) (goal_tree d t.2.0) l.leaves
+          (without_at (goal_tree d) left t.0 t.2.0 t.1 t.2.1)
+          (t.2.2.1 u rs (exact_then u rs x l.store)
+          (is_goal t.0 t.2.0 t.1 t.2.1 (λ g. IsFirstOrderClause (goal_tree d g)) l.first_order))

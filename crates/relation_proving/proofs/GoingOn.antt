@@ -1,0 +1,127 @@
+-- What may be asked and used stays so in a later context, and what was first-order is.
+use Rattle.std.proofs.Common.{◌≡◌, ℕ, ◌<◌, List, [], ◌∷◌, refl, sym, ◌∙◌, subst, All, IsTrue}
+use Rattle.std.specs.List.{AllZip}
+use Rattle.std.proofs.lemmas.List.Elements.{All-head, All-tail}
+use Rattle.relation_terms.specs.declared.terms.binder.Binder.{Binder}
+use Rattle.relation_terms.specs.declared.terms.keys.ClauseKey.{ClauseKey}
+use Rattle.relation_terms.specs.declared.terms.keys.ClausesKey.{ClausesKey}
+use Rattle.relation_terms.specs.declared.terms.keys.ParamEnvKey.{ParamEnvKey}
+use Rattle.relation_terms.specs.Trees.{Tree, known, Leaves}
+use Rattle.relation_terms.specs.Meaning.{Meaning, Extends}
+use Rattle.relation_terms.proofs.Binders.{under_stays}
+use Rattle.relation_terms.proofs.Stays.{stays_same, extends_on, knows_param_env}
+use Rattle.relation_semantics.specs.Bound.{IsWellBound}
+use Rattle.relation_semantics.specs.Contexts.{Context}
+use Rattle.relation_semantics.specs.Relation.{IsValueLeaf}
+use Rattle.relation_semantics.specs.Steps.{IsLater}
+use Rattle.relation_semantics.specs.Stores.{IsTermIn}
+use Rattle.relation_semantics.proofs.Going.{later_itself, later_same, later_through}
+use Rattle.relation_semantics.proofs.Standing.{later_term}
+use Rattle.relation_solver.specs.Records.{SameRecord}
+use Rattle.relation_solver.specs.Rules.{Rule}
+use Rattle.relation_solver.proofs.Kept.{same_through}
+use Rattle.relation_proving.specs.RuleTerms.{IsRule, rule_tree}
+use Rattle.relation_proving.specs.Candidates.{MayAsk, IsFirstOrderAt, IsFirstOrderClause, IsFirstOrderRule}
+use Rattle.relation_proving.specs.Telling.{MayUse, MayProve, GoesOn, IsBack, IsExact, goal_tree}
+use Rattle.relation_proving.proofs.Candidates.{ask_later}
+
+module _ {Key Id Name : Type 0} where
+  pub goes_itself : (c : Context Key Id Name) → c.lawful → GoesOn c c
+  goes_itself c l = record { later = later_itself c.store; lawful = l; grown = stays_same c.meaning }
+
+  pub goes_through : (c d e : Context Key Id Name) → GoesOn c d → GoesOn d e → GoesOn c e
+  goes_through c d e p q = record {
+    later = later_through p.later q.later;
+    lawful = q.lawful;
+    grown = extends_on p.grown q.grown;
+  }
+
+  pub same_itself : (c : Context Key Id Name) → SameRecord c c
+  same_itself c = record { store = refl; setup = refl; outliving = refl; marks = λ n. refl }
+
+  pub back_itself : (c : Context Key Id Name) → c.lawful → IsBack c c
+  back_itself c l = record { same = same_itself c; lawful = l; grown = stays_same c.meaning }
+
+  pub back_through : (c d e : Context Key Id Name) → IsBack c d → IsBack d e → IsBack c e
+  back_through c d e p q = record {
+    same = same_through c d e p.same q.same;
+    lawful = q.lawful;
+    grown = extends_on p.grown q.grown;
+  }
+
+  pub back_goes : (c d : Context Key Id Name) → IsBack c d → GoesOn c d
+  back_goes c d p = record {
+    later = later_same c.store d.store (p.same).store;
+    lawful = p.lawful;
+    grown = p.grown;
+  }
+
+  rule_stays : (m n : Meaning Key Id Name) → Extends m n → (k : Binder Key (ClausesKey Key)) →
+      IsTrue (known (rule_tree m k)) → rule_tree n k ≡ rule_tree m k
+  rule_stays m n e k h = under_stays (m.bound_vars k.bound_vars) (n.bound_vars k.bound_vars) (m.clauses k.value)
+      (n.clauses k.value) (e.bound_vars k.bound_vars) (e.clauses k.value) h
+
+  module _ (c d : Context Key Id Name) (g : GoesOn c d) where
+    pub use_on : (k : Binder Key (ClausesKey Key)) → MayUse c k → MayUse d k
+    use_on k h =
+        let same = rule_stays c.meaning d.meaning g.grown k h.is_known in
+        record {
+          is_known = subst (λ t. IsTrue (known t)) (sym same) h.is_known;
+          taken = subst IsWellBound (sym same) h.taken;
+          is_in = subst (IsTermIn d.store) (sym same) (later_term c.store d.store (g.later).grows
+              (g.later).universe_stands (rule_tree c.meaning k) h.is_in);
+        }
+
+    pub uses_on : (ks : List (Binder Key (ClausesKey Key))) → All (MayUse c) ks → All (MayUse d) ks
+    uses_on ks h = λ i x l. use_on _ (h i x l)
+
+    pub proves_on : (ks : List (Binder Key (ClausesKey Key))) (e : ParamEnvKey Key) → MayProve c ks e → MayProve d ks e
+    proves_on ks e h = record {
+      lawful = g.lawful;
+      env_known = knows_param_env g.grown e h.env_known;
+      rules = uses_on ks h.rules;
+    }
+
+    pub ask_on : (k : ClauseKey Key) → MayAsk c k → MayAsk d k
+    ask_on k h = ask_later c d g.grown g.later k h
+
+    pub asks_on : (ks : List (ClauseKey Key)) → All (MayAsk c) ks → All (MayAsk d) ks
+    asks_on ks h = λ i x l. ask_on _ (h i x l)
+
+    -- A goal that was first-order is, and is the goal that it was.
+    pub goal_stays : (k : ClauseKey Key) → MayAsk c k → goal_tree d k ≡ goal_tree c k
+    goal_stays k h = (g.grown).clause k h.is_known
+
+    pub goals_first_order : (ks : List (ClauseKey Key)) → All (MayAsk c) ks →
+        All (λ k. IsFirstOrderClause (goal_tree c k)) ks → All (λ k. IsFirstOrderClause (goal_tree d k)) ks
+    goals_first_order ks h f = λ i x l. subst IsFirstOrderClause (sym (goal_stays _ (h i x l))) (f i x l)
+
+    pub rule_first_order : (k : Binder Key (ClausesKey Key)) (r : Rule) → MayUse c k → IsFirstOrderRule c k r →
+        IsFirstOrderRule d k r
+    rule_first_order k r h f =
+        let same = rule_stays c.meaning d.meaning g.grown k h.is_known in
+        record {
+          closed = subst (Leaves IsValueLeaf) (sym same) f.closed;
+          is_rule = subst (λ t. IsRule t r) (sym same) f.is_rule;
+          clauses = f.clauses;
+        }
+
+    rules_first_order : (ks : List (Binder Key (ClausesKey Key))) (rs : List Rule) → All (MayUse c) ks →
+        AllZip (IsFirstOrderRule c) ks rs → AllZip (IsFirstOrderRule d) ks rs
+    rules_first_order [] [] h f = tt
+    rules_first_order (k ∷ ks) (r ∷ rs) h f = (
+      rule_first_order k r (All-head (MayUse c) k ks h) f.0,
+      rules_first_order ks rs (All-tail (MayUse c) k ks h) f.1,
+    )
+    rules_first_order [] (r ∷ rs) h f = absurd f
+    rules_first_order (k ∷ ks) [] h f = absurd f
+
+    pub exact_on : (ks : List (Binder Key (ClausesKey Key))) (u : ℕ) (rs : List Rule) → All (MayUse c) ks →
+        IsFirstOrderAt u d.store → IsExact u c ks rs → IsExact u d ks rs
+    exact_on ks u rs h s f = record { store = s; rules = rules_first_order ks rs h f.rules }
+
+  -- What is recorded again is first-order as it was.
+  pub exact_back : (c d : Context Key Id Name) → IsBack c d → (ks : List (Binder Key (ClausesKey Key))) (u : ℕ)
+      (rs : List Rule) → All (MayUse c) ks → IsExact u c ks rs → IsExact u d ks rs
+  exact_back c d b ks u rs h f = exact_on c d (back_goes c d b) ks u rs h
+      (subst (IsFirstOrderAt u) (sym (b.same).store) f.store) f

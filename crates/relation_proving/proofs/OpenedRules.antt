@@ -1,0 +1,161 @@
+-- A rule that was opened: its clauses, and the variables that they were opened by.
+use Rattle.std.proofs.Common.{◌≡◌, ℕ, List, [], ◌∷◌, refl, sym, ◌∙◌, ap, ap₂, subst, map, take, All, Option, Some, None}
+use Rattle.std.proofs.Common.{IsTrue, arith}
+use Rattle.std.specs.Prelude.{IfOk, Result, Ok, Err}
+use Rattle.std.specs.Global.{Vec}
+use Rattle.std.proofs.lemmas.Bool.{and_parts}
+use Rattle.std.proofs.lemmas.List.Elements.{All-nil, All-cons, All-head, All-tail, All-same}
+use Rattle.relation_terms.specs.declared.terms.binder.Binder.{Binder}
+use Rattle.relation_terms.specs.declared.terms.keys.ClauseKey.{ClauseKey}
+use Rattle.relation_terms.specs.declared.terms.keys.ClausesKey.{ClausesKey}
+use Rattle.relation_terms.specs.Heads.{BoundKind}
+use Rattle.relation_terms.specs.Trees.{Tree, leaf, node, bind, nil, cons, list_tree, inst, known, Leaves}
+use Rattle.relation_terms.specs.Meaning.{Meaning, under}
+use Rattle.relation_terms.proofs.Paths.{first_path, rest_path}
+use Rattle.relation_semantics.specs.Relation.{IsValueLeaf}
+use Rattle.relation_semantics.specs.Binders.{InstantiatesAs, InstantiatesEach, MakesFirst}
+use Rattle.relation_semantics.specs.Bound.{BindsByList, IsWellBound}
+use Rattle.relation_semantics.specs.Contexts.{Context}
+use Rattle.relation_semantics.specs.OpeningLaws.{MakingEachMakes, InstantiatingEachOpens, InstantiatedBodyIsIn, InstantiatedBodyBinds}
+use Rattle.relation_semantics.specs.Steps.{InstantiatesBinder, IsLater}
+use Rattle.relation_semantics.specs.Stores.{Store, InContext, IsTermIn, IsSound}
+use Rattle.relation_semantics.proofs.Standing.{term_context, term_within, term_namable, term_in}
+use Rattle.relation_solver.specs.Rules.{Rule}
+use Rattle.relation_solver.specs.Traces.{Opens}
+use Rattle.relation_proving.specs.RuleTerms.{IsRule, rule_tree, KnowsRule, TakesRule, HasRule, IsClosedRule, OpensRule}
+
+-- A binder that binds by its list, as all binders in a term do.
+pub binds_by_list : (t : Tree) → IsWellBound t → BindsByList t
+binds_by_list (leaf l) h = tt
+binds_by_list (node a t) h = tt
+binds_by_list (bind ks t) h = h.0
+binds_by_list nil h = tt
+binds_by_list (cons t ts) h = tt
+
+-- Where a growth was refused the record comes of that before still.
+pub refused_later : MakingEachMakes → (before after : Store) (ks : List BoundKind) → IsSound before →
+    MakesFirst before.universe before ks after → IsLater before after
+refused_later makes before after ks g f =
+    (makes before after before.universe (take f.0 ks) f.1 f.2 (omega arith) g).later
+
+-- A list of terms as a tree: putting terms for what a binder binds, and what the tree is a list of.
+list_opened : (vs : List Tree) (d : ℕ) (ts : List Tree) →
+    inst vs d (list_tree (λ x. x) ts) ≡ list_tree (λ x. x) (map (inst vs d) ts)
+list_opened vs d [] = refl
+list_opened vs d (t ∷ ts) = ap (cons (inst vs d t)) (list_opened vs d ts)
+
+list_same : {K : Type 0} (f : K → Tree) (ks : List K) (ts : List Tree) → list_tree f ks ≡ list_tree (λ x. x) ts →
+    map f ks ≡ ts
+list_same f [] [] e = refl
+list_same f [] (t ∷ ts) e = absurd cc
+list_same f (k ∷ ks) [] e = absurd cc
+list_same f (k ∷ ks) (t ∷ ts) e = ap₂ (λ a b. a ∷ b) (first_path e) (list_same f ks ts (rest_path e))
+
+-- What holds of such a tree holds of each of the list.
+module _ {K : Type 0} (f : K → Tree) where
+  each_known : (ks : List K) → IsTrue (known (list_tree f ks)) → All (λ k. IsTrue (known (f k))) ks
+  each_known [] h = All-nil (λ k. IsTrue (known (f k)))
+  each_known (k ∷ ks) h = All-cons (λ k. IsTrue (known (f k))) k ks (and_parts (known (f k)) (known (list_tree f ks)) h).0
+      (each_known ks (and_parts (known (f k)) (known (list_tree f ks)) h).1)
+
+  each_taken : (ks : List K) → IsWellBound (list_tree f ks) → All (λ k. IsWellBound (f k)) ks
+  each_taken [] h = All-nil (λ k. IsWellBound (f k))
+  each_taken (k ∷ ks) h = All-cons (λ k. IsWellBound (f k)) k ks h.0 (each_taken ks h.1)
+
+  each_closed : (ks : List K) → Leaves IsValueLeaf (list_tree f ks) → All (λ k. Leaves IsValueLeaf (f k)) ks
+  each_closed [] h = All-nil (λ k. Leaves IsValueLeaf (f k))
+  each_closed (k ∷ ks) h = All-cons (λ k. Leaves IsValueLeaf (f k)) k ks h.0 (each_closed ks h.1)
+
+first_in : (st : Store) (t ts : Tree) → IsTermIn st (cons t ts) → IsTermIn st t
+unfolding IsTermIn InContext
+first_in st t ts h = (h.0.0, h.1.0, h.2.0)
+
+others_in : (st : Store) (t ts : Tree) → IsTermIn st (cons t ts) → IsTermIn st ts
+unfolding IsTermIn InContext
+others_in st t ts h = (h.0.1, h.1.1, h.2.1)
+
+each_in : {K : Type 0} (f : K → Tree) (st : Store) (ks : List K) → IsTermIn st (list_tree f ks) →
+    All (λ k. IsTermIn st (f k)) ks
+each_in f st [] h = All-nil (λ k. IsTermIn st (f k))
+each_in f st (k ∷ ks) h = All-cons (λ k. IsTermIn st (f k)) k ks (first_in st (f k) (list_tree f ks) h)
+    (each_in f st ks (others_in st (f k) (list_tree f ks) h))
+
+in_contexts : (st : Store) (ts : List Tree) → IsTermIn st (list_tree (λ x. x) ts) → All (InContext st) ts
+in_contexts st [] h = All-nil (InContext st)
+in_contexts st (t ∷ ts) h = All-cons (InContext st) t ts
+    (term_context st t (first_in st t (list_tree (λ x. x) ts) h))
+    (in_contexts st ts (others_in st t (list_tree (λ x. x) ts) h))
+
+module _ {Key Id Name : Type 0} (opens : InstantiatingEachOpens) (body_in : InstantiatedBodyIsIn)
+    (body_binds : InstantiatedBodyBinds) where
+  -- What a rule's body was opened as is a term of the context whose binders bind by their lists.
+  record Body (before after : Store) (x : Tree) : Type 0 where
+    later : IsLater before after
+    is_in : IsTermIn after x
+    well_bound : IsWellBound x
+
+  body : (c d : Context Key Id Name) (o : Option (List BoundKind)) (t x : Tree) → InstantiatesAs c d (under o t) x →
+      IsSound c.store → IsTermIn c.store (under o t) → IsWellBound (under o t) → Body c.store d.store x
+  body c d None t x f g i w = absurd f
+  body c d (Some ks) t x f g i w = record {
+    later = (opens c.store d.store ks t x f g).makes.later;
+    is_in = (body_in c.store d.store ks t x f g i w.0).0;
+    well_bound = body_binds c.store d.store ks t x f w.1;
+  }
+
+  module _ (c d : Context Key Id Name) (r : Binder Key (ClausesKey Key)) (x : ClausesKey Key)
+      (f : InstantiatesAs c d (rule_tree c.meaning r) ((d.meaning).clauses x)) (g : IsSound c.store)
+      (has : HasRule c r) (taken : TakesRule c r) where
+    b : Body c.store d.store ((d.meaning).clauses x)
+    b = body c d ((c.meaning).bound_vars r.bound_vars) ((c.meaning).clauses r.value) ((d.meaning).clauses x) f g has taken
+
+    pub rule_later : IsLater c.store d.store
+    rule_later = b.later
+
+    module _ (cs : List (ClauseKey Key)) (is_known : IsTrue (known ((d.meaning).clauses x)))
+        (listed : (d.meaning).clauses x ≡ list_tree (d.meaning).clause cs) where
+      by_variables : IsClosedRule c r → (rule : Rule) → IsRule (rule_tree c.meaning r) rule → (vars : List Tree) ×
+          Opens (c.store).universe c.store d.store rule vars ×
+          (map (d.meaning).clause cs ≡ map (inst vars 0) (rule.gives ∷ rule.asks))
+      by_variables closed rule is =
+          let p : InstantiatesAs c d (bind rule.binds (cons rule.gives (list_tree (λ z. z) rule.asks)))
+          ((d.meaning).clauses x) = subst (λ t. InstantiatesAs c d t ((d.meaning).clauses x)) is.clauses f in
+          let o = opens c.store d.store rule.binds (cons rule.gives (list_tree (λ z. z) rule.asks))
+          ((d.meaning).clauses x) p g in
+          let vs = o.variables in
+          let body_is : (d.meaning).clauses x ≡ list_tree (λ z. z) (map (inst vs 0) (rule.gives ∷ rule.asks)) =
+          o.body_is ∙ ap (cons (inst vs 0 rule.gives)) (list_opened vs 0 rule.asks) in
+          let all_in = in_contexts d.store (map (inst vs 0) (rule.gives ∷ rule.asks))
+          (subst (IsTermIn d.store) body_is b.is_in) in
+          let all_closed = each_closed (λ z. z) (rule.gives ∷ rule.asks)
+          (subst (Leaves IsValueLeaf) is.clauses closed) in (
+            vs,
+            record {
+              sound = g;
+              makes = o.makes;
+              gives_in = All-head (InContext d.store) (inst vs 0 rule.gives) (map (inst vs 0) rule.asks) all_in;
+              asks_in = All-tail (InContext d.store) (inst vs 0 rule.gives) (map (inst vs 0) rule.asks) all_in;
+              shadows_in = All-same (λ t. InContext d.store (inst vs 0 t)) rule.shadowed_by [] is.shadowed_by_none
+                  (All-nil (λ t. InContext d.store (inst vs 0 t)));
+              gives_closed = All-head (Leaves IsValueLeaf) rule.gives rule.asks all_closed;
+              asks_closed = All-tail (Leaves IsValueLeaf) rule.gives rule.asks all_closed;
+              shadows_closed = All-same (Leaves IsValueLeaf) rule.shadowed_by [] is.shadowed_by_none
+                  (All-nil (Leaves IsValueLeaf));
+            },
+            list_same (d.meaning).clause cs (map (inst vs 0) (rule.gives ∷ rule.asks)) (sym listed ∙ body_is),
+          )
+
+      opens_rule : OpensRule c d r cs
+      opens_rule = record {
+        are_known = each_known (d.meaning).clause cs (subst (λ t. IsTrue (known t)) listed is_known);
+        are_in = each_in (d.meaning).clause d.store cs (subst (IsTermIn d.store) listed b.is_in);
+        are_taken = each_taken (d.meaning).clause cs (subst IsWellBound listed b.well_bound);
+        by_variables = by_variables;
+      }
+
+    pub opens_listed : {F : Type 0} (m : Meaning Key Id Name) → m ≡ d.meaning →
+        (result : Result (Vec (ClauseKey Key)) F) →
+        IfOk result (λ v. m.clauses x ≡ list_tree m.clause v.items) → IsTrue (known ((d.meaning).clauses x)) →
+        IfOk result (λ v. OpensRule c d r v.items)
+    opens_listed m e (Ok v) h k = opens_rule v.items k (subst (λ n. n.clauses x ≡ list_tree n.clause v.items) e h)
+    opens_listed m e (Err f) h k = tt

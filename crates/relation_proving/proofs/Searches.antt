@@ -1,0 +1,250 @@
+-- What is known of the rules for a goal, as they are gone through.
+use Rattle.std.proofs.Common.{◌≡◌, ℕ, suc, ◌+◌, ◌<◌, ◌≤◌, List, [], ◌∷◌, ◌++◌, refl, sym, ◌∙◌, ap, subst, map, All, length}
+use Rattle.std.proofs.Common.{get_or, take, arith}
+use Rattle.std.specs.Prelude.{Contains}
+use Rattle.std.specs.List.{AllZip}
+use Rattle.std.proofs.lemmas.List.{take_all, take_more}
+use Rattle.std.proofs.lemmas.List.Elements.{All-get_or, length_all_zip, AllZip-get_or, Contains-get_or}
+use Rattle.relation_terms.specs.declared.terms.binder.Binder.{Binder}
+use Rattle.relation_terms.specs.declared.terms.keys.ClauseKey.{ClauseKey}
+use Rattle.relation_terms.specs.declared.terms.keys.ClausesKey.{ClausesKey}
+use Rattle.relation_terms.specs.Trees.{Tree, nil}
+use Rattle.relation_terms.specs.Meaning.{Extends}
+use Rattle.relation_terms.proofs.Stays.{extends_on, stays_same}
+use Rattle.relation_semantics.specs.Contexts.{Context}
+use Rattle.relation_semantics.specs.Steps.{IsLater}
+use Rattle.relation_solver.specs.Records.{SameRecord, IsRecordOf, StandsOn}
+use Rattle.relation_solver.specs.Rules.{Rule, given}
+use Rattle.relation_solver.specs.Traces.{Did, goal, rule, yes, no, FollowsBy}
+use Rattle.relation_solver.proofs.Going.{AllFail, AllOthersFail, one_more_fails, first_found, one_other_fails, all_fail}
+use Rattle.relation_solver.proofs.Going.{takes_alone}
+use Rattle.relation_solver.proofs.Kept.{may_put_back, put_back_is, put_back_means}
+use Rattle.relation_proving.specs.declared.told.Why.{Why}
+use Rattle.relation_proving.specs.declared.told.Told.{Told}
+use Rattle.relation_proving.specs.declared.told.Told.TheVariants.{Yes, No, Maybe}
+use Rattle.relation_proving.specs.declared.searching.Tried.{Tried}
+use Rattle.relation_proving.specs.declared.searching.Tried.TheVariants.{Follows, Fails, Unclear}
+use Rattle.relation_proving.specs.declared.searching.Search.{Search}
+use Rattle.relation_proving.specs.declared.searching.Search.TheVariants.{Nothing, Found, Open}
+use Rattle.relation_proving.specs.Candidates.{MayAsk, IsFirstOrderAt, IsFirstOrderClause, IsFirstOrderRule}
+use Rattle.relation_proving.specs.Telling.{MayUse, GoesOn, IsBack, IsExact, goal_tree, TellsGoal, TellsRule}
+use Rattle.relation_proving.specs.Telling.{SaysYes, SaysYesBy}
+use Rattle.relation_proving.specs.Searching.{search_after, told_by, settled, HasKept, KeepsTold, MaySettle, TellsTried}
+use Rattle.relation_proving.proofs.GoingOn.{goes_through, back_through, back_goes, same_itself}
+use Rattle.relation_proving.proofs.Answering.{rule_back}
+
+-- Which rule a place's key is, as a tree.
+abbrev pub rule_at : List Rule → ℕ → Rule
+rule_at rs n = get_or rs n (given nil)
+
+module _ {S R Key Id Name : Type 0} (state : S → Context Key Id Name) (with_record : S → R → S) where
+  -- A record that was kept may be put back also once the interner has come to know more.
+  kept_on : (c : Context Key Id Name) (now then : S) (r : R) → Extends (state now).meaning (state then).meaning →
+      HasKept state with_record c now r → HasKept state with_record c then r
+  kept_on c now then r e h = record {
+    where_kept = h.where_kept;
+    is = h.is;
+    goes_on = h.goes_on;
+    known = extends_on h.known e;
+  }
+
+  module _ (c : Context Key Id Name) (ks : List (Binder Key (ClausesKey Key))) (g : ClauseKey Key) where
+    -- By the first n rules it follows by one alone.
+    pub record Only (there : S) (n u : ℕ) (rs : List Rule) : Type 0 where
+      pub by : Rule
+      pub follows : FollowsBy u [] rs c.store (state there).store by (goal_tree c g)
+      pub store : IsFirstOrderAt u (state there).store
+      pub others : AllOthersFail u [] rs c.store by (goal_tree c g) (take n rs)
+
+    -- What is known of the first n rules.
+    abbrev pub TellsSearch : S → ℕ → Search R → Type 0
+    TellsSearch now n Nothing = (u : ℕ) (rs : List Rule) → IsExact u c ks rs → IsFirstOrderClause (goal_tree c g) →
+        AllFail u [] rs c.store (goal_tree c g) (take n rs)
+    TellsSearch now n (Found r) = (h : HasKept state with_record c now r) × ((u : ℕ) (rs : List Rule) →
+        IsExact u c ks rs → IsFirstOrderClause (goal_tree c g) → Only h.where_kept n u rs)
+    TellsSearch now n (Open why) = Unit {0}
+
+    pub record Searches (now : S) (n : ℕ) (search : Search R) : Type 0 where
+      pub back : IsBack c (state now)
+      pub tells : TellsSearch now n search
+
+    none_fails : (u : ℕ) (rs : List Rule) → AllFail u [] rs c.store (goal_tree c g) (take 0 rs)
+    none_fails u rs q x = let below : x.0 < 0 = x.1 in absurd (omega (arith, below))
+
+    pub search_begins : (now : S) → IsBack c (state now) → Searches now 0 Nothing
+    search_begins now b = record { back = b; tells = λ u rs x f. none_fails u rs }
+
+    -- One rule more.
+    module _ (now then : S) (n : ℕ) (k : Binder Key (ClausesKey Key)) (l : n < length ks) (is : k ≡ get_or ks n k)
+        (uses : All (MayUse c) ks) (asked : MayAsk c g) (b : IsBack c (state now))
+        (b' : IsBack (state now) (state then)) where
+      may_use : MayUse c k
+      may_use = subst (MayUse c) (sym is) (All-get_or (MayUse c) ks n k l uses)
+
+      module _ (u : ℕ) (rs : List Rule) (x : IsExact u c ks rs) where
+        there : n < length rs
+        there = let same = length_all_zip (IsFirstOrderRule c) ks rs x.rules in omega (arith, l, same)
+
+        is_rule : IsFirstOrderRule c k (rule_at rs n)
+        is_rule = subst (λ z. IsFirstOrderRule c z (rule_at rs n)) (sym is)
+            (AllZip-get_or (IsFirstOrderRule c) ks rs n k (given nil) x.rules l)
+
+        in_rules : Contains rs (rule_at rs n)
+        in_rules = Contains-get_or rs n (given nil) there
+
+        one_more : take (n + 1) rs ≡ take n rs ++ rule_at rs n ∷ []
+        one_more = take_more rs n (given nil) there
+
+      fails : (d : Context Key Id Name) → TellsRule (state now) d ks k g No → (u : ℕ) (rs : List Rule) →
+          IsExact u c ks rs → IsFirstOrderClause (goal_tree c g) →
+          Did u [] rs c.store (rule (rule_at rs n) (goal_tree c g)) no
+      fails d t u rs x f = rule_back c (state now) d b ks uses g asked k may_use No t u rs (rule_at rs n) x
+          (is_rule u rs x) (in_rules u rs x) f
+
+      follows : (d : Context Key Id Name) → TellsRule (state now) d ks k g Yes → (u : ℕ) (rs : List Rule) →
+          IsExact u c ks rs → IsFirstOrderClause (goal_tree c g) → SaysYesBy c d ks g u rs (rule_at rs n)
+      follows d t u rs x f = rule_back c (state now) d b ks uses g asked k may_use Yes t u rs (rule_at rs n) x
+          (is_rule u rs x) (in_rules u rs x) f
+
+      kept_before : (r : R) → HasKept state with_record (state now) then r → HasKept state with_record c then r
+      kept_before r h = record {
+        where_kept = h.where_kept;
+        is = h.is;
+        goes_on = goes_through c (state now) (state h.where_kept) (back_goes c (state now) b) h.goes_on;
+        known = h.known;
+      }
+
+      after : (search : Search R) (tried : Tried R) → TellsSearch now n search →
+          TellsTried state with_record (state now) then ks k g tried →
+          TellsSearch then (n + 1) (search_after search tried)
+      after Nothing (Follows r) s t = (
+        kept_before r t.0,
+        λ u rs x f.
+            let p = follows (state (t.0).where_kept) t.1 u rs x f in
+            record {
+              by = rule_at rs n;
+              follows = p.follows;
+              store = p.store;
+              others = subst (AllOthersFail u [] rs c.store (rule_at rs n) (goal_tree c g)) (sym (one_more u rs x))
+                  (first_found u [] rs c.store (goal_tree c g) (take n rs) (rule_at rs n) (s u rs x f));
+            },
+      )
+      after Nothing Fails s t = λ u rs x f.
+          subst (AllFail u [] rs c.store (goal_tree c g)) (sym (one_more u rs x))
+          (one_more_fails u [] rs c.store (goal_tree c g) (take n rs) (rule_at rs n) (s u rs x f)
+          (fails (state then) t u rs x f))
+      after Nothing (Unclear why) s t = tt
+      after (Found r) (Follows q) s t = tt
+      after (Found r) Fails s t = (
+        kept_on c now then r b'.grown s.0,
+        λ u rs x f.
+            let o = s.1 u rs x f in
+            record {
+              by = o.by;
+              follows = o.follows;
+              store = o.store;
+              others = subst (AllOthersFail u [] rs c.store o.by (goal_tree c g)) (sym (one_more u rs x))
+                  (one_other_fails u [] rs c.store (goal_tree c g) (take n rs) o.by (rule_at rs n) o.others
+                  (fails (state then) t u rs x f));
+            },
+      )
+      after (Found r) (Unclear why) s t = tt
+      after (Open why) (Follows q) s t = tt
+      after (Open why) Fails s t = tt
+      after (Open why) (Unclear again) s t = tt
+
+      pub search_goes_on : (search : Search R) (tried : Tried R) → TellsSearch now n search →
+          TellsTried state with_record (state now) then ks k g tried →
+          Searches then (n + 1) (search_after search tried)
+      search_goes_on search tried s t = record {
+        back = back_through c (state now) (state then) b b';
+        tells = after search tried s t;
+      }
+
+    -- All rules were tried.
+    module _ (stands : (r : R) → StandsOn state with_record r) (now : S) (n : ℕ) (all : length ks ≤ n) where
+      whole : (u : ℕ) (rs : List Rule) → IsExact u c ks rs → take n rs ≡ rs
+      whole u rs x =
+          let same = length_all_zip (IsFirstOrderRule c) ks rs x.rules in
+          take_all n rs (omega (arith, all, same))
+
+      pub may_settle : (search : Search R) → TellsSearch now n search → MaySettle state with_record now search
+      may_settle Nothing s = tt
+      may_settle (Found r) s = may_put_back state with_record r (s.0).where_kept now (s.0).is (stands r) (s.0).known
+      may_settle (Open why) s = tt
+
+      put_back_same : (r : R) (h : HasKept state with_record c now r) →
+          SameRecord (state h.where_kept) (state (with_record now r))
+      put_back_same r h = put_back_is state with_record r h.where_kept now h.is (stands r) h.known
+
+      settled_goes : (search : Search R) → IsBack c (state now) → TellsSearch now n search →
+          GoesOn c (state (settled with_record now search))
+      settled_goes Nothing b s = back_goes c (state now) b
+      settled_goes (Found r) b s = record {
+        later = subst (IsLater c.store) (sym (put_back_same r s.0).store) ((s.0).goes_on).later;
+        lawful = may_settle (Found r) s;
+        grown = subst (Extends c.meaning) (sym (put_back_means state with_record r (s.0).where_kept now (s.0).is
+            (stands r) (s.0).known)) b.grown;
+      }
+      settled_goes (Open why) b s = back_goes c (state now) b
+
+      settled_tells : (search : Search R) → IsBack c (state now) → TellsSearch now n search →
+          TellsGoal c (state (settled with_record now search)) ks g (told_by search)
+      settled_tells Nothing b s = (
+        b,
+        λ u rs x f. all_fail u [] rs c.store (goal_tree c g)
+            (subst (AllFail u [] rs c.store (goal_tree c g)) (whole u rs x) (s u rs x f)),
+      )
+      settled_tells (Found r) b s = λ u rs x f.
+          let o = s.1 u rs x f in
+          let same : (state (with_record now r)).store ≡ (state (s.0).where_kept).store = (put_back_same r s.0).store in
+          record {
+            did = subst (λ z. Did u [] rs c.store (goal (goal_tree c g)) (yes z)) (sym same)
+                (takes_alone u [] rs c.store (state (s.0).where_kept).store o.by (goal_tree c g) o.follows
+                (subst (AllOthersFail u [] rs c.store o.by (goal_tree c g)) (whole u rs x) o.others));
+            store = subst (IsFirstOrderAt u) (sym same) o.store;
+          }
+      settled_tells (Open why) b s = b
+
+      -- So it is of what is answered.
+      module _ (search : Search R) (s : Searches now n search) (then : S) (is : then ≡ settled with_record now search) where
+        pub settles_goes : GoesOn c (state then)
+        settles_goes = subst (λ z. GoesOn c (state z)) (sym is) (settled_goes search s.back s.tells)
+
+        pub settles_tells : (told : Told) → told ≡ told_by search → TellsGoal c (state then) ks g told
+        settles_tells told e = subst (TellsGoal c (state then) ks g) (sym e)
+            (subst (λ z. TellsGoal c (state z) ks g (told_by search)) (sym is) (settled_tells search s.back s.tells))
+
+  -- A rule was tried, what is recorded then kept if the goal follows by it, and the record put back.
+  module _ (c : Context Key Id Name) (ks : List (Binder Key (ClausesKey Key))) (k : Binder Key (ClausesKey Key))
+      (g : ClauseKey Key) (now then : S) (on : GoesOn c (state now))
+      (grown : Extends (state now).meaning (state then).meaning) where
+    pub tried_tells : (told : Told) (tried : Tried R) → TellsRule c (state now) ks k g told →
+        KeepsTold state with_record now told tried → TellsTried state with_record c then ks k g tried
+    tried_tells Yes (Follows r) t h =
+        (record { where_kept = now; is = h; goes_on = on; known = grown }, t)
+    tried_tells No Fails t h = t
+    tried_tells (Maybe why) (Unclear again) t h = tt
+    tried_tells Yes Fails t h = absurd h
+    tried_tells Yes (Unclear again) t h = absurd h
+    tried_tells No (Follows r) t h = absurd h
+    tried_tells No (Unclear again) t h = absurd h
+    tried_tells (Maybe why) (Follows r) t h = absurd h
+    tried_tells (Maybe why) Fails t h = absurd h
+
+  -- The record that was kept before may be put back, and is what was then.
+  module _ (before now then : S) (r : R) (is : IsRecordOf (state before) (state (with_record before r)))
+      (stands : StandsOn state with_record r) (grown : Extends (state before).meaning (state now).meaning)
+      (put : then ≡ with_record now r) where
+    pub put_back_grown : Extends (state now).meaning (state then).meaning
+    put_back_grown = subst (λ z. Extends (state now).meaning (state z).meaning) (sym put)
+        (subst (Extends (state now).meaning) (sym (put_back_means state with_record r before now is stands grown))
+        (stays_same (state now).meaning))
+
+    pub put_back_back : IsBack (state before) (state then)
+    put_back_back = subst (λ z. IsBack (state before) (state z)) (sym put) (record {
+      same = put_back_is state with_record r before now is stands grown;
+      lawful = may_put_back state with_record r before now is stands grown;
+      grown = subst (Extends (state before).meaning) (sym (put_back_means state with_record r before now is stands grown))
+          grown;
+    })

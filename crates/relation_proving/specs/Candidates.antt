@@ -1,0 +1,124 @@
+-- What trying a rule for a goal tells, between a context before the call and after it.
+--
+--   MayAsk d k                 a clause may be a goal
+--   IsFirstOrderAt u st        what is recorded is first-order, the current universe being u
+--   IsFirstOrderRule c k r     a rule is first-order, and this is its tree
+--   MayTry c k g u r           what is asked of a rule and a goal where what is told is exact
+--   AsksFor c k g u d r asks   the goal is what the rule gives, if what the rule asks for follows
+--   GivesNone c k g u r        the goal is nothing that the rule gives
+--   TellsOpened ..             what is told of a goal and of what an opened rule gives
+--   TellsCandidate c k g d x   what is told of a rule that was tried
+use Rattle.std.specs.Prelude.{◌≡◌, ℕ, List, [], ◌∷◌, All, IsTrue, None, map}
+use Rattle.std.specs.Global.{Vec}
+use Rattle.relation_terms.specs.declared.terms.binder.Binder.{Binder}
+use Rattle.relation_terms.specs.declared.terms.keys.ClauseKey.{ClauseKey}
+use Rattle.relation_terms.specs.declared.terms.keys.ClausesKey.{ClausesKey}
+use Rattle.relation_terms.specs.declared.terms.keys.ParamEnvKey.{ParamEnvKey}
+use Rattle.relation_terms.specs.declared.predicate.trait_ref.TraitPredicate.{TraitPredicate}
+use Rattle.relation_terms.specs.declared.predicate.kinds.ClauseKind.TheVariants.{Trait}
+use Rattle.relation_terms.specs.Meaning.{Meaning}
+use Rattle.relation_terms.specs.Predicates.{clause_kind_tree}
+use Rattle.relation_terms.specs.Heads.{BoundKind, bound_sort, VarKind, var_sort, variable}
+use Rattle.relation_terms.specs.Trees.{Tree, leaf, node, bind, nil, cons, inst, known}
+use Rattle.relation_semantics.specs.Bound.{IsWellBound}
+use Rattle.relation_semantics.specs.Contexts.{Context}
+use Rattle.relation_semantics.specs.FirstOrder.{IsFirstOrder, IsFirstOrderStore}
+use Rattle.relation_semantics.specs.Outcomes.{Exact, NoUnifier}
+use Rattle.relation_semantics.specs.Stores.{Store, IsTermIn}
+use Rattle.relation_solver.specs.Rules.{Rule}
+use Rattle.relation_solver.specs.Traces.{Opens}
+use Rattle.relation_proving.specs.Bodies.{IsBodyOf}
+use Rattle.relation_proving.specs.Fitting.{AreMadeOne, AreToldApart}
+use Rattle.relation_proving.specs.RuleTerms.{IsRule, rule_tree, IsClosedRule}
+use Rattle.relation_proving.specs.declared.fitting.Fitting.{Fitting}
+use Rattle.relation_proving.specs.declared.fitting.Fitting.TheVariants.{Fits, Apart as ToldApart, Left}
+use Rattle.relation_proving.specs.declared.candidate.Candidate.{Candidate}
+use Rattle.relation_proving.specs.declared.candidate.Candidate.TheVariants.{Asks, Apart, Unclear}
+
+-- What becomes of a rule that asks for these clauses, by what became of the goal and what it gives.
+abbrev pub candidate_by : {Key : Type 0} → Vec (ClauseKey Key) → Fitting → Candidate Key
+candidate_by asks Fits = Asks asks
+candidate_by asks ToldApart = Apart
+candidate_by asks Left = Unclear
+
+-- Variables of the kinds that a binder binds.
+abbrev pub AreVariablesFor : List BoundKind → List Tree → Type 0
+AreVariablesFor [] [] = Unit {0}
+AreVariablesFor (k ∷ ks) (x ∷ xs) =
+    ((v : VarKind) × (n : ℕ) × (x ≡ leaf (variable v n)) × (var_sort v ≡ bound_sort k)) × AreVariablesFor ks xs
+AreVariablesFor [] (x ∷ xs) = ⊥
+AreVariablesFor (k ∷ ks) [] = ⊥
+
+-- A clause whose binder binds nothing, over a first-order body.
+abbrev pub IsFirstOrderClause : Tree → Type 0
+IsFirstOrderClause (bind [] t) = IsFirstOrder t
+IsFirstOrderClause t = ⊥
+
+-- What is recorded is first-order, and this is the current universe.
+pub record IsFirstOrderAt (u : ℕ) (st : Store) : Type 0 where
+  pub bindings : IsFirstOrderStore st
+  pub universe : st.universe ≡ u
+
+module _ {Key Id Name : Type 0} where
+  -- A clause may be a goal: it is known, is the context's, and its binders bind by their lists.
+  pub record MayAsk (d : Context Key Id Name) (k : ClauseKey Key) : Type 0 where
+    pub is_known : IsTrue (known ((d.meaning).clause k))
+    pub is_in : IsTermIn d.store ((d.meaning).clause k)
+    pub taken : IsWellBound ((d.meaning).clause k)
+
+  -- Two clauses say these of traits, under binders that bind nothing.
+  pub record Say (m : Meaning Key Id Name) (g given : ClauseKey Key) (q p : TraitPredicate Key Id) : Type 0 where
+    pub goal : IsBodyOf m g q
+    pub gives : IsBodyOf m given p
+
+  abbrev pub trait_tree : Meaning Key Id Name → TraitPredicate Key Id → Tree
+  trait_tree m p = clause_kind_tree m (Trait p)
+
+  -- Of a goal and what an opened rule gives: what both say was made one, and these are what the rule asks for; or nothing
+  -- makes it one.
+  module _ (c d : Context Key Id Name) (e : ParamEnvKey Key) (g given : ClauseKey Key) (asks : List (ClauseKey Key)) where
+    abbrev pub TellsOpened : Candidate Key → Type 0
+    TellsOpened (Asks v) = (v.items ≡ asks) × ((q : TraitPredicate Key Id) × (p : TraitPredicate Key Id) ×
+        Say c.meaning g given q p × AreMadeOne c d None trait_tree e q p)
+    TellsOpened Apart = (q : TraitPredicate Key Id) × (p : TraitPredicate Key Id) × Say c.meaning g given q p ×
+        AreToldApart c d None trait_tree e q p
+    TellsOpened Unclear = Unit {0}
+
+  -- A rule as a tree, without variables. With variables for what it binds each of its clauses is first-order, under a
+  -- binder that binds nothing.
+  pub record IsFirstOrderRule (c : Context Key Id Name) (k : Binder Key (ClausesKey Key)) (r : Rule) : Type 0 where
+    pub closed : IsClosedRule c k
+    pub is_rule : IsRule (rule_tree c.meaning k) r
+    pub clauses : (vars : List Tree) → AreVariablesFor r.binds vars →
+        All IsFirstOrderClause (map (inst vars 0) (r.gives ∷ r.asks))
+
+  module _ (c : Context Key Id Name) (k : Binder Key (ClausesKey Key)) (g : ClauseKey Key) (u : ℕ) where
+    -- The rule, the goal and what is recorded are first-order.
+    pub record MayTry (r : Rule) : Type 0 where
+      pub store : IsFirstOrderAt u c.store
+      pub rule : IsFirstOrderRule c k r
+      pub goal : IsFirstOrderClause ((c.meaning).clause g)
+
+    -- It was opened, and what it gives made one with the goal, exactly; these are what it asks for then.
+    pub record AsksFor (d : Context Key Id Name) (r : Rule) (asks : List (ClauseKey Key)) : Type 0 where
+      pub vars : List Tree
+      pub opened : Store
+      pub opens : Opens u c.store opened r vars
+      pub exact : Exact opened d.store ((c.meaning).clause g) (inst vars 0 r.gives)
+      pub asks_are : map (d.meaning).clause asks ≡ map (inst vars 0) r.asks
+      pub asks_first_order : All (λ a. IsFirstOrderClause ((d.meaning).clause a)) asks
+      pub store : IsFirstOrderAt u d.store
+
+    -- It was opened, and nothing makes what it gives one with the goal.
+    pub record GivesNone (r : Rule) : Type 0 where
+      pub vars : List Tree
+      pub opened : Store
+      pub opens : Opens u c.store opened r vars
+      pub none : NoUnifier opened ((c.meaning).clause g) (inst vars 0 r.gives)
+
+  -- What became of a rule that was tried for a goal.
+  module _ (c : Context Key Id Name) (k : Binder Key (ClausesKey Key)) (g : ClauseKey Key) where
+    abbrev pub TellsCandidate : Context Key Id Name → Candidate Key → Type 0
+    TellsCandidate d (Asks v) = All (MayAsk d) v.items × ((u : ℕ) (r : Rule) → MayTry c k g u r → AsksFor c k g u d r v.items)
+    TellsCandidate d Apart = (u : ℕ) (r : Rule) → MayTry c k g u r → GivesNone c k g u r
+    TellsCandidate d Unclear = Unit {0}

@@ -1,0 +1,94 @@
+-- What stands between the answers to rules and to goals, and the answer of a search.
+--
+--   worse_of a b                        of two reasons why it isn't told which counts
+--   HasKept state with_record c now r   what was kept where a goal followed, which may be put back
+--   TellsRound c d ks gs round          what is told of the goals of a list, asked one after another
+--   KeepsTold state with_record now     what was kept of an answer
+--   TellsTried ..                       what is told of a rule that was tried, once the record is put back
+--   search_after search tried           what is known of the rules with one more
+--   told_by search                      what that tells of the goal
+--   settled with_record now search      the context once that is told
+use Rattle.std.specs.Prelude.{◌≡◌, ℕ, ◌<◌, List, length, get_or}
+use Rattle.relation_terms.specs.declared.terms.binder.Binder.{Binder}
+use Rattle.relation_terms.specs.declared.terms.keys.ClauseKey.{ClauseKey}
+use Rattle.relation_terms.specs.declared.terms.keys.ClausesKey.{ClausesKey}
+use Rattle.relation_terms.specs.Meaning.{Extends}
+use Rattle.relation_semantics.specs.Contexts.{Context}
+use Rattle.relation_solver.specs.Records.{IsRecordOf}
+use Rattle.relation_proving.specs.Telling.{GoesOn, IsBack, TellsGoal, TellsRule}
+use Rattle.relation_proving.specs.declared.told.Why.{Why}
+use Rattle.relation_proving.specs.declared.told.Why.TheVariants.{Ambiguous, Depth}
+use Rattle.relation_proving.specs.declared.told.Told.{Told}
+use Rattle.relation_proving.specs.declared.told.Told.TheVariants.{Yes, No, Maybe}
+use Rattle.relation_proving.specs.declared.searching.Round.{Round}
+use Rattle.relation_proving.specs.declared.searching.Round.TheVariants.{Proved, Failed, Stuck}
+use Rattle.relation_proving.specs.declared.searching.Tried.{Tried}
+use Rattle.relation_proving.specs.declared.searching.Tried.TheVariants.{Follows, Fails, Unclear}
+use Rattle.relation_proving.specs.declared.searching.Search.{Search}
+use Rattle.relation_proving.specs.declared.searching.Search.TheVariants.{Nothing, Found, Open}
+
+-- A spent depth counts before ambiguity.
+abbrev pub worse_of : Why → Why → Why
+worse_of Depth b = Depth
+worse_of Ambiguous b = b
+
+-- What is known of rules, with one more that was tried.
+abbrev pub search_after : {R : Type 0} → Search R → Tried R → Search R
+search_after Nothing (Follows r) = Found r
+search_after Nothing Fails = Nothing
+search_after Nothing (Unclear why) = Open why
+search_after (Found r) (Follows q) = Open Ambiguous
+search_after (Found r) Fails = Found r
+search_after (Found r) (Unclear why) = Open why
+search_after (Open why) (Follows q) = Open why
+search_after (Open why) Fails = Open why
+search_after (Open why) (Unclear again) = Open (worse_of why again)
+
+-- What that tells of the goal, and the context then.
+abbrev pub told_by : {R : Type 0} → Search R → Told
+told_by Nothing = No
+told_by (Found r) = Yes
+told_by (Open why) = Maybe why
+
+abbrev pub settled : {S R : Type 0} → (S → R → S) → S → Search R → S
+settled with_record now Nothing = now
+settled with_record now (Found r) = with_record now r
+settled with_record now (Open why) = now
+
+-- What is told of the goals of a list that are asked one after another: one of them was proved or failed, or it isn't
+-- told of any.
+module _ {Key Id Name : Type 0} (c d : Context Key Id Name) (ks : List (Binder Key (ClausesKey Key)))
+    (gs : List (ClauseKey Key)) where
+  abbrev pub TellsRound : Round → Type 0
+  TellsRound (Proved i) = (i < length gs) × ((g : ClauseKey Key) × (g ≡ get_or gs i g) × TellsGoal c d ks g Yes)
+  TellsRound Failed = (i : ℕ) × (i < length gs) × ((g : ClauseKey Key) × (g ≡ get_or gs i g) × TellsGoal c d ks g No)
+  TellsRound (Stuck why) = Unit {0}
+
+module _ {S R Key Id Name : Type 0} (state : S → Context Key Id Name) (with_record : S → R → S) where
+  -- What was kept of a context that came of another, whose keys the interner knows still: so it may be put back.
+  pub record HasKept (c : Context Key Id Name) (now : S) (r : R) : Type 0 where
+    pub where_kept : S
+    pub is : IsRecordOf (state where_kept) (state (with_record where_kept r))
+    pub goes_on : GoesOn c (state where_kept)
+    pub known : Extends (state where_kept).meaning (state now).meaning
+
+  -- After a yes what is recorded was kept.
+  abbrev pub KeepsTold : S → Told → Tried R → Type 0
+  KeepsTold now Yes (Follows r) = IsRecordOf (state now) (state (with_record now r))
+  KeepsTold now No Fails = Unit {0}
+  KeepsTold now (Maybe why) (Unclear again) = Unit {0}
+  KeepsTold now told tried = ⊥
+
+  -- A record that was found may be put back.
+  abbrev pub MaySettle : S → Search R → Type 0
+  MaySettle now Nothing = Unit {0}
+  MaySettle now (Found r) = (state (with_record now r)).lawful
+  MaySettle now (Open why) = Unit {0}
+
+  -- What is told of a rule: where the goal follows by it, what is recorded then was kept.
+  module _ (c : Context Key Id Name) (now : S) (ks : List (Binder Key (ClausesKey Key)))
+      (k : Binder Key (ClausesKey Key)) (g : ClauseKey Key) where
+    abbrev pub TellsTried : Tried R → Type 0
+    TellsTried (Follows r) = (h : HasKept c now r) × TellsRule c (state h.where_kept) ks k g Yes
+    TellsTried Fails = TellsRule c (state now) ks k g No
+    TellsTried (Unclear why) = Unit {0}

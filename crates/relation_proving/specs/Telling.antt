@@ -1,0 +1,101 @@
+-- What a solver tells of a goal, between a context c before the call and d after it.
+--
+--   MayUse c k                   a rule may be opened
+--   MayProve c ks e              goals may be proved from rules in an environment
+--   GoesOn c d                   all that was recorded stands, and more may be recorded
+--   IsBack c d                   what is recorded is what was
+--   IsExact u c ks rs            the rules and what is recorded are first-order, and these are the rules' trees
+--   TellsGoal c d ks g told      what is told of a goal
+--   TellsAll c d ks gs told      of all of a list
+--   TellsRule c d ks k g told    of a goal and one rule
+use Rattle.std.specs.Prelude.{◌≡◌, ℕ, List, [], ◌∷◌, All, IsTrue, map, Contains}
+use Rattle.std.specs.List.{AllZip}
+use Rattle.relation_terms.specs.declared.terms.binder.Binder.{Binder}
+use Rattle.relation_terms.specs.declared.terms.keys.ClauseKey.{ClauseKey}
+use Rattle.relation_terms.specs.declared.terms.keys.ClausesKey.{ClausesKey}
+use Rattle.relation_terms.specs.declared.terms.keys.ParamEnvKey.{ParamEnvKey}
+use Rattle.relation_terms.specs.Trees.{Tree}
+use Rattle.relation_terms.specs.Meaning.{Extends}
+use Rattle.relation_semantics.specs.Contexts.{Context, KnowsEnv}
+use Rattle.relation_semantics.specs.Steps.{IsLater}
+use Rattle.relation_solver.specs.Records.{SameRecord}
+use Rattle.relation_solver.specs.Rules.{Rule}
+use Rattle.relation_solver.specs.Traces.{Did, goal, goals, rule, yes, no, FollowsBy}
+use Rattle.relation_proving.specs.RuleTerms.{KnowsRule, TakesRule, HasRule}
+use Rattle.relation_proving.specs.Candidates.{IsFirstOrderAt, IsFirstOrderClause, IsFirstOrderRule}
+use Rattle.relation_proving.specs.declared.told.Told.{Told}
+use Rattle.relation_proving.specs.declared.told.Told.TheVariants.{Yes, No, Maybe}
+
+module _ {Key Id Name : Type 0} where
+  -- The interner knows the rule; its binders bind by their lists; nothing in it is of a later universe or escapes.
+  pub record MayUse (c : Context Key Id Name) (k : Binder Key (ClausesKey Key)) : Type 0 where
+    pub is_known : KnowsRule c k
+    pub taken : TakesRule c k
+    pub is_in : HasRule c k
+
+  -- The context is lawful, its interner knows the environment, and each rule may be used.
+  pub record MayProve (c : Context Key Id Name) (ks : List (Binder Key (ClausesKey Key))) (e : ParamEnvKey Key) :
+      Type 0 where
+    pub lawful : c.lawful
+    pub env_known : KnowsEnv c e
+    pub rules : All (MayUse c) ks
+
+  -- What was recorded stands, the context is lawful, and the interner knows what it knew.
+  pub record GoesOn (c d : Context Key Id Name) : Type 0 where
+    pub later : IsLater c.store d.store
+    pub lawful : d.lawful
+    pub grown : Extends c.meaning d.meaning
+
+  -- What is recorded is what was.
+  pub record IsBack (c d : Context Key Id Name) : Type 0 where
+    pub same : SameRecord c d
+    pub lawful : d.lawful
+    pub grown : Extends c.meaning d.meaning
+
+  -- What is recorded is first-order, and so are the rules, whose trees these are.
+  pub record IsExact (u : ℕ) (c : Context Key Id Name) (ks : List (Binder Key (ClausesKey Key))) (rs : List Rule) :
+      Type 0 where
+    pub store : IsFirstOrderAt u c.store
+    pub rules : AllZip (IsFirstOrderRule c) ks rs
+
+  abbrev pub goal_tree : Context Key Id Name → ClauseKey Key → Tree
+  goal_tree c g = (c.meaning).clause g
+
+  module _ (c d : Context Key Id Name) (ks : List (Binder Key (ClausesKey Key))) where
+    -- A solver said yes to a goal, and what is recorded stays first-order.
+    pub record SaysYes (g : ClauseKey Key) (u : ℕ) (rs : List Rule) : Type 0 where
+      pub did : Did u [] rs c.store (goal (goal_tree c g)) (yes d.store)
+      pub store : IsFirstOrderAt u d.store
+
+    -- The same of all of a list.
+    pub record SaysYesToAll (gs : List (ClauseKey Key)) (u : ℕ) (rs : List Rule) : Type 0 where
+      pub did : Did u [] rs c.store (goals (map (goal_tree c) gs)) (yes d.store)
+      pub store : IsFirstOrderAt u d.store
+
+    -- And of a goal by one rule.
+    pub record SaysYesBy (g : ClauseKey Key) (u : ℕ) (rs : List Rule) (r : Rule) : Type 0 where
+      pub follows : FollowsBy u [] rs c.store d.store r (goal_tree c g)
+      pub store : IsFirstOrderAt u d.store
+
+    -- What is told of a goal. Where it isn't yes, what is recorded is what was.
+    abbrev pub TellsGoal : ClauseKey Key → Told → Type 0
+    TellsGoal g Yes = (u : ℕ) (rs : List Rule) → IsExact u c ks rs → IsFirstOrderClause (goal_tree c g) → SaysYes g u rs
+    TellsGoal g No = IsBack c d × ((u : ℕ) (rs : List Rule) → IsExact u c ks rs → IsFirstOrderClause (goal_tree c g) →
+        Did u [] rs c.store (goal (goal_tree c g)) no)
+    TellsGoal g (Maybe why) = IsBack c d
+
+    -- What is told of all of a list.
+    abbrev pub TellsAll : List (ClauseKey Key) → Told → Type 0
+    TellsAll gs Yes = (u : ℕ) (rs : List Rule) → IsExact u c ks rs → All (λ g. IsFirstOrderClause (goal_tree c g)) gs →
+        SaysYesToAll gs u rs
+    TellsAll gs No = (u : ℕ) (rs : List Rule) → IsExact u c ks rs → All (λ g. IsFirstOrderClause (goal_tree c g)) gs →
+        Did u [] rs c.store (goals (map (goal_tree c) gs)) no
+    TellsAll gs (Maybe why) = Unit {0}
+
+    -- What is told of a goal and one of the rules.
+    abbrev pub TellsRule : Binder Key (ClausesKey Key) → ClauseKey Key → Told → Type 0
+    TellsRule k g Yes = (u : ℕ) (rs : List Rule) (r : Rule) → IsExact u c ks rs → IsFirstOrderRule c k r →
+        Contains rs r → IsFirstOrderClause (goal_tree c g) → SaysYesBy g u rs r
+    TellsRule k g No = (u : ℕ) (rs : List Rule) (r : Rule) → IsExact u c ks rs → IsFirstOrderRule c k r →
+        Contains rs r → IsFirstOrderClause (goal_tree c g) → Did u [] rs c.store (rule r (goal_tree c g)) no
+    TellsRule k g (Maybe why) = Unit {0}

@@ -1,0 +1,119 @@
+//! Whether a goal may follow by a rule, and what that asks for.
+ghost use Rattle.std.specs.Prelude.{◌≡◌, IfOk, IfSome, IsTrue};
+ghost use Rattle.relation_terms.specs.Meaning.{Extends};
+ghost use Rattle.relation_terms.specs.Trees.{known};
+ghost use Rattle.relation_semantics.specs.Contexts.{KnowsEnv};
+ghost use Rattle.relation_semantics.specs.Steps.{IsLater};
+ghost use Rattle.relation_proving.specs.Bodies.{IsBodyOf};
+ghost use Rattle.relation_proving.specs.Candidates.{candidate_by, MayAsk, TellsOpened, TellsCandidate};
+ghost use Rattle.relation_proving.specs.RuleTerms.{KnowsRule, TakesRule, HasRule};
+
+use crate::fitting::{Fitting, fit};
+use crate::opening::{RuleOf, open_rule};
+use crate::reading::{TraitPredicateOf, trait_body};
+use relation_folds::error::RelateResult;
+use relation_semantics::infer_ctxt::InferCtxtLike;
+use relation_terms::terms::{Clause, ClauseKey, Interner, Keys, ParamEnv, Span};
+
+/// What became of a rule that was tried for a goal, over keys.
+#[derive(Drop)]
+pub enum Candidate<X> {
+    /// The goal is what the rule gives, by what is recorded, if these follow: what the rule asks for.
+    Asks(Vec<ClauseKey<X>>),
+    /// The goal is nothing that the rule gives.
+    Apart,
+    /// That isn't told: the rule has no clause, the goal or what the rule gives is no clause of a trait whose binder
+    /// binds nothing, or goals were left where the two were related.
+    Unclear,
+}
+
+/// The same over an interner's keys.
+pub type CandidateOf<I> = Candidate<<I as Keys>::Key>;
+
+// What becomes of a rule by what became of the goal and what it gives.
+fn candidate_of<X>(fitting: Fitting, asks: Vec<ClauseKey<X>>) -> Candidate<X>
+    ensures { result ≡ candidate_by asks fitting }
+{
+    match fitting {
+        Fitting::Fits => Candidate::Asks(asks),
+        Fitting::Apart => Candidate::Apart,
+        Fitting::Left => Candidate::Unclear,
+    }
+}
+
+// What two clauses of traits say whose binders bind nothing.
+fn bodies<I: Interner>(
+    cx: &I,
+    goal: &Clause<I>,
+    given: &Clause<I>,
+) -> Option<(TraitPredicateOf<I>, TraitPredicateOf<I>)>
+    requires goal_known { IsTrue (known ((I.meaning cx.now).clause goal.now)) }
+    requires given_known { IsTrue (known ((I.meaning cx.now).clause given.now)) }
+    ensures goal { IfSome result (λ p. IsBodyOf (I.meaning cx.now) goal.now p.0) }
+    ensures given { IfSome result (λ p. IsBodyOf (I.meaning cx.now) given.now p.1) }
+{
+    let goal = trait_body(cx, goal)?;
+    let given = trait_body(cx, given)?;
+    Some((goal, given))
+}
+
+// Relates a goal and what an opened rule gives, and answers what it asks for.
+fn try_opened<C: InferCtxtLike>(
+    ctx: &mut C,
+    param_env: ParamEnv<C::Interner>,
+    goal: &Clause<C::Interner>,
+    given: &Clause<C::Interner>,
+    asks: &[Clause<C::Interner>],
+    span: Span<C::Interner>,
+) -> RelateResult<C::Interner, CandidateOf<C::Interner>>
+    requires lawful { (C.state ctx.old).lawful }
+    requires env_known { KnowsEnv (C.state ctx.old) param_env }
+    requires goal { MayAsk (C.state ctx.old) goal.now }
+    requires given { MayAsk (C.state ctx.old) given.now }
+    ensures tells { IfOk result (TellsOpened (C.state ctx.old) (C.state ctx.new) param_env goal.now given.now asks.now) }
+    ensures later { IsLater (C.state ctx.old).store (C.state ctx.new).store }
+    ensures lawful { (C.state ctx.new).lawful }
+    ensures grown { Extends (C.state ctx.old).meaning (C.state ctx.new).meaning }
+{
+    let Some((goal, given)) = bodies(ctx.cx(), goal, given) else {
+        return Ok(Candidate::Unclear);
+    };
+    let fitting = fit(ctx, param_env, goal, given, span)?;
+    let mut list = Vec::new(ctx.cx().alloc());
+    list.extend_from_slice(asks)?;
+    Ok(candidate_of(fitting, list))
+}
+
+/// Tries a rule for a goal: opens it, and relates the goal and what it gives. What is recorded then is left, also where
+/// the rule does not serve.
+///
+/// The interner has to know the environment, the rule and the goal, whose binders bind by their lists; their variables
+/// and placeholders are the context's. After `Asks` the goal is what the rule gives, exactly, where all is first-order;
+/// after `Apart` no solution makes them one.
+///
+/// # Errors
+/// `Budget` where no instantiation is left, and `Memory` where a growth was refused.
+pub fn try_rule<C: InferCtxtLike>(
+    ctx: &mut C,
+    param_env: ParamEnv<C::Interner>,
+    rule: RuleOf<C::Interner>,
+    goal: &Clause<C::Interner>,
+    span: Span<C::Interner>,
+) -> RelateResult<C::Interner, CandidateOf<C::Interner>>
+    requires lawful { (C.state ctx.old).lawful }
+    requires env_known { KnowsEnv (C.state ctx.old) param_env }
+    requires rule_known { KnowsRule (C.state ctx.old) rule }
+    requires rule_taken { TakesRule (C.state ctx.old) rule }
+    requires rule_in { HasRule (C.state ctx.old) rule }
+    requires goal { MayAsk (C.state ctx.old) goal.now }
+    ensures tells { IfOk result (TellsCandidate (C.state ctx.old) rule goal.now (C.state ctx.new)) }
+    ensures later { IsLater (C.state ctx.old).store (C.state ctx.new).store }
+    ensures lawful { (C.state ctx.new).lawful }
+    ensures grown { Extends (C.state ctx.old).meaning (C.state ctx.new).meaning }
+{
+    let clauses = open_rule(ctx, rule)?;
+    match clauses.split_first() {
+        None => Ok(Candidate::Unclear),
+        Some((given, asks)) => try_opened(ctx, param_env, goal, given, asks, span),
+    }
+}

@@ -1,0 +1,11 @@
+//! A solver: whether goals follow from rules, such as impls. A rule is opened, what it gives is related with a goal,
+//! and what it asks for is proved in turn.
+#![tactic(auto)]
+
+pub mod candidate;
+pub mod fitting;
+pub mod opening;
+pub mod proving;
+pub mod reading;
+mod searching;
+mod told;

@@ -1,0 +1,189 @@
+//! Whether a goal follows from rules, within a depth.
+ghost use Rattle.std.specs.Prelude.{All, IfOk};
+ghost use Rattle.relation_terms.specs.Meaning.{Extends};
+ghost use Rattle.relation_semantics.specs.Steps.{IsLater};
+ghost use Rattle.relation_proving.specs.Candidates.{MayAsk};
+ghost use Rattle.relation_proving.specs.Telling.{MayUse, MayProve, GoesOn, IsBack, TellsGoal, TellsAll, TellsRule};
+ghost use Rattle.relation_proving.specs.Searching.{TellsRound, TellsTried};
+ghost use Rattle.relation_proving.specs.Answers.{YesIsSound, YesIsPrincipal, NoMeansNone, LeavesNothing};
+
+use crate::candidate::{Candidate, try_rule};
+use crate::opening::RuleOf;
+use crate::searching::{Round, Search, Tried, keep_told, settle, with_tried, worse};
+pub use crate::told::{Told, Why};
+use relation_folds::error::RelateResult;
+use relation_solver::laws;
+use relation_solver::records::KeepsRecord;
+use relation_terms::terms::{Clause, ParamEnv, Span};
+
+/// Whether a goal follows from rules, within a depth: such as impls, and what an environment has, each of its clauses
+/// as a rule that binds nothing and asks for nothing.
+///
+/// Each rule is opened, and what it gives is related with the goal; what it asks for is proved in turn, at one less
+/// depth, in rounds: what isn't told of a goal is asked again once another was proved. It is `Yes` where the goal
+/// follows by one rule alone and no other is left, and the record is then what that one leaves. Where more than one
+/// rule is left it is `Maybe(Ambiguous)`, and so it is where a binder that binds something, another predicate than that
+/// a trait is implemented, or a goal that relating leaves stands in the way; where the depth is spent,
+/// `Maybe(Depth)`, which counts first.
+///
+/// The interner has to know the environment, the rules and the goal, whose binders bind by their lists; their variables
+/// and placeholders are the context's. Where the goal, the rules and what is recorded are first-order, and no variable
+/// stands in a rule, `Yes` says that each solution which is left makes the goal follow, and that none was lost under
+/// which it follows; and `No` that under no solution it does, at no depth. After `No` and `Maybe` what is recorded is
+/// what was.
+///
+/// # Errors
+/// `Budget` where no instantiation is left, and `Memory` where a growth was refused. More may be recorded then; all
+/// that was recorded stands.
+pub fn prove<C: KeepsRecord>(
+    ctx: &mut C,
+    rules: &[RuleOf<C::Interner>],
+    param_env: ParamEnv<C::Interner>,
+    goal: &Clause<C::Interner>,
+    depth: usize,
+    span: Span<C::Interner>,
+) -> RelateResult<C::Interner, Told>
+    requires may { MayProve (C.state ctx.old) rules.now param_env }
+    requires goal { MayAsk (C.state ctx.old) goal.now }
+    ensures sound { YesIsSound (C.state ctx.old) (C.state ctx.new) rules.now goal.now result }
+    ensures principal { YesIsPrincipal (C.state ctx.old) (C.state ctx.new) rules.now goal.now result }
+    ensures none { NoMeansNone (C.state ctx.old) (C.state ctx.new) rules.now goal.now result }
+    ensures back { LeavesNothing (C.state ctx.old) (C.state ctx.new) rules.now goal.now result }
+    ensures later { IsLater (C.state ctx.old).store (C.state ctx.new).store }
+    ensures lawful { (C.state ctx.new).lawful }
+    ensures grown { Extends (C.state ctx.old).meaning (C.state ctx.new).meaning }
+{
+    laws::goals();
+    follows(ctx, rules, param_env, goal, depth, span)
+}
+
+// Whether a goal follows.
+#[cycle(proving)]
+fn follows<C: KeepsRecord>(
+    ctx: &mut C,
+    rules: &[RuleOf<C::Interner>],
+    param_env: ParamEnv<C::Interner>,
+    goal: &Clause<C::Interner>,
+    depth: usize,
+    span: Span<C::Interner>,
+) -> RelateResult<C::Interner, Told>
+    requires may { MayProve (C.state ctx.old) rules.now param_env }
+    requires goal { MayAsk (C.state ctx.old) goal.now }
+    ensures goes_on { GoesOn (C.state ctx.old) (C.state ctx.new) }
+    ensures tells { IfOk result (TellsGoal (C.state ctx.old) (C.state ctx.new) rules.now goal.now) }
+{
+    if depth == 0 {
+        return Ok(Told::Maybe(Why::Depth));
+    }
+    let mut search = Search::Nothing;
+    for rule in rules {
+        let tried = try_and_put_back(ctx, rules, param_env, *rule, goal, depth - 1, span)?;
+        search = with_tried(search, tried);
+    }
+    Ok(settle(ctx, search))
+}
+
+// Tries a rule, and puts the record back.
+#[cycle(proving)]
+fn try_and_put_back<C: KeepsRecord>(
+    ctx: &mut C,
+    rules: &[RuleOf<C::Interner>],
+    param_env: ParamEnv<C::Interner>,
+    rule: RuleOf<C::Interner>,
+    goal: &Clause<C::Interner>,
+    depth: usize,
+    span: Span<C::Interner>,
+) -> RelateResult<C::Interner, Tried<C::Record>>
+    requires may { MayProve (C.state ctx.old) rules.now param_env }
+    requires rule { MayUse (C.state ctx.old) rule }
+    requires goal { MayAsk (C.state ctx.old) goal.now }
+    ensures goes_on { GoesOn (C.state ctx.old) (C.state ctx.new) }
+    ensures back { IfOk result (λ r. IsBack (C.state ctx.old) (C.state ctx.new)) }
+    ensures tells { IfOk result (TellsTried C.state C.with_record (C.state ctx.old) ctx.new rules.now rule goal.now) }
+{
+    let before = ctx.keep()?;
+    let told = follows_by(ctx, rules, param_env, rule, goal, depth, span)?;
+    let tried = keep_told(&*ctx, told)?;
+    ctx.put_back(before);
+    Ok(tried)
+}
+
+// Whether a goal follows by a rule. What is recorded then is left.
+#[cycle(proving)]
+fn follows_by<C: KeepsRecord>(
+    ctx: &mut C,
+    rules: &[RuleOf<C::Interner>],
+    param_env: ParamEnv<C::Interner>,
+    rule: RuleOf<C::Interner>,
+    goal: &Clause<C::Interner>,
+    depth: usize,
+    span: Span<C::Interner>,
+) -> RelateResult<C::Interner, Told>
+    requires may { MayProve (C.state ctx.old) rules.now param_env }
+    requires rule { MayUse (C.state ctx.old) rule }
+    requires goal { MayAsk (C.state ctx.old) goal.now }
+    ensures goes_on { GoesOn (C.state ctx.old) (C.state ctx.new) }
+    ensures tells { IfOk result (TellsRule (C.state ctx.old) (C.state ctx.new) rules.now rule goal.now) }
+{
+    match try_rule(ctx, param_env, rule, goal, span)? {
+        Candidate::Asks(asks) => all_follow(ctx, rules, param_env, asks, depth, span),
+        Candidate::Apart => Ok(Told::No),
+        Candidate::Unclear => Ok(Told::Maybe(Why::Ambiguous)),
+    }
+}
+
+// Whether all of a list follow, asked in rounds. What is recorded then is left.
+#[cycle(proving)]
+fn all_follow<C: KeepsRecord>(
+    ctx: &mut C,
+    rules: &[RuleOf<C::Interner>],
+    param_env: ParamEnv<C::Interner>,
+    asks: Vec<Clause<C::Interner>>,
+    depth: usize,
+    span: Span<C::Interner>,
+) -> RelateResult<C::Interner, Told>
+    requires may { MayProve (C.state ctx.old) rules.now param_env }
+    requires asks { All (MayAsk (C.state ctx.old)) asks.items }
+    ensures goes_on { GoesOn (C.state ctx.old) (C.state ctx.new) }
+    ensures tells { IfOk result (TellsAll (C.state ctx.old) (C.state ctx.new) rules.now asks.items) }
+{
+    let mut left = asks;
+    'rounds: while !left.is_empty() {
+        match one_follows(ctx, rules, param_env, &left, depth, span)? {
+            Round::Proved(place) => {
+                left.remove(place);
+            }
+            Round::Failed => return Ok(Told::No),
+            Round::Stuck(why) => return Ok(Told::Maybe(why)),
+        }
+    }
+    Ok(Told::Yes)
+}
+
+// Whether one of a list follows, or none of it is told of.
+#[cycle(proving)]
+fn one_follows<C: KeepsRecord>(
+    ctx: &mut C,
+    rules: &[RuleOf<C::Interner>],
+    param_env: ParamEnv<C::Interner>,
+    goals: &[Clause<C::Interner>],
+    depth: usize,
+    span: Span<C::Interner>,
+) -> RelateResult<C::Interner, Round>
+    requires may { MayProve (C.state ctx.old) rules.now param_env }
+    requires goals { All (MayAsk (C.state ctx.old)) goals.now }
+    ensures goes_on { GoesOn (C.state ctx.old) (C.state ctx.new) }
+    ensures tells { IfOk result (TellsRound (C.state ctx.old) (C.state ctx.new) rules.now goals.now) }
+{
+    let mut why = Why::Ambiguous;
+    for (place, goal) in goals.iter().enumerate() {
+        match follows(ctx, rules, param_env, goal, depth, span)? {
+            Told::Yes => return Ok(Round::Proved(place)),
+            Told::No => return Ok(Round::Failed),
+            Told::Maybe(again) => {
+                why = worse(why, again);
+            }
+        }
+    }
+    Ok(Round::Stuck(why))
+}

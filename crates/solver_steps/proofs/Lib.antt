@@ -1,4 +1,0 @@
-pub mod OpenedRules
-pub mod Fits
-pub mod Unbound
-pub mod Candidates

@@ -1,9 +1,0 @@
--- What is told of the two is what relating them promises.
-use Rattle.std.proofs.Common.{sym, subst}
-use Rattle.solver_steps.proofs.Fits.{tells}
-use Rattle.solver_steps.proofs.fitting.fit.Goals as goal
-
-pub returns-clause-tells : goal.returns-clause-tells
-returns-clause-tells g c =
-    rw c.fitting_of.ensures (tells c.relate.result c.relate.ensures.both c.relate.ensures.loses_none
-    c.relate.ensures.fault c.relate.ensures.leaves)

@@ -1,4 +1,0 @@
-pub mod RuleTerms
-pub mod Fitting
-pub mod Bodies
-pub mod Candidates
