@@ -10,7 +10,7 @@ use Rattle.relation_semantics.specs.Stores.{Store, IsSound}
 use Rattle.relation_reference.specs.declared.context.variables.RefCtxt.{RefCtxt}
 use Rattle.relation_reference.specs.RefCtxt.{context_in}
 use Rattle.variable_tables.specs.declared.inner.InferCtxtInner.{InferCtxtInner}
-use Rattle.variable_tables.specs.SubRoots.{root_in, IsRootTable}
+use Rattle.variable_classes.specs.Roots.{root_in, IsRootTable}
 use Rattle.variable_tables.specs.Tables.{by_kind, store_of, keys_in, IsRooted, IsFilled, IsLawful, setup_in, context_of}
 use Rattle.variable_tables.specs.Variables.{entries_of, universes_of, trees_of}
 use Rattle.variable_tables.proofs.Grows.{store_grows, lawful_grows}

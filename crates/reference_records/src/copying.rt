@@ -26,14 +26,14 @@ pub fn copied<X: Copy>(
     ensures { IfOk result (IsCopy inner.now) }
 {
     Ok(InferCtxtInner {
-        types: copy_of(alloc, &inner.types)?,
-        ints: copy_of(alloc, &inner.ints)?,
-        floats: copy_of(alloc, &inner.floats)?,
-        consts: copy_of(alloc, &inner.consts)?,
-        regions: copy_of(alloc, &inner.regions)?,
+        types: inner.types.copied(alloc)?,
+        ints: inner.ints.copied(alloc)?,
+        floats: inner.floats.copied(alloc)?,
+        consts: inner.consts.copied(alloc)?,
+        regions: inner.regions.copied(alloc)?,
         constraints: copy_of(alloc, &inner.constraints)?,
         ty_outlives: copy_of(alloc, &inner.ty_outlives)?,
-        sub_roots: copy_of(alloc, &inner.sub_roots)?,
+        sub_roots: inner.sub_roots.copied(alloc)?,
         universe: inner.universe,
         budget: inner.budget,
         next_solver: inner.next_solver,

@@ -14,13 +14,15 @@ use Rattle.relation_terms.specs.Trees.{Tree, bind, inst, known}
 use Rattle.relation_terms.specs.Meaning.{Meaning, Extends}
 use Rattle.relation_terms.specs.Predicates.{clause_kind_tree}
 use Rattle.relation_semantics.specs.Bound.{IsWellBound}
-use Rattle.relation_semantics.specs.Contexts.{Context}
+use Rattle.relation_semantics.specs.Contexts.{Context, KnowsEnv}
 use Rattle.relation_semantics.specs.FirstOrder.{IsFirstOrder, IsFirstOrderStore}
 use Rattle.relation_semantics.specs.Headline.{IsFirstOrderPair}
 use Rattle.relation_semantics.specs.Outcomes.{Exact, NoUnifier}
 use Rattle.relation_semantics.specs.Steps.{AreNewVariables, IsLater}
 use Rattle.relation_semantics.specs.Stores.{Store, IsTermIn, entry_term}
 use Rattle.relation_semantics.proofs.Standing.{later_term}
+use Rattle.term_enums.specs.declared.Variance.TheVariants.{Invariant}
+use Rattle.type_relations.specs.Contract.{CanRelate}
 use Rattle.relation_solver.specs.Rules.{Rule}
 use Rattle.relation_solver.specs.Traces.{Opens}
 use Rattle.relation_solver.proofs.Bodies.{exact_under, apart_under}
@@ -31,7 +33,8 @@ use Rattle.relation_proving.proofs.Unbound.{body_in}
 use Rattle.relation_proving.specs.declared.fitting.Fitting.{Fitting}
 use Rattle.relation_proving.specs.declared.fitting.Fitting.TheVariants.{Fits, Apart, Left}
 use Rattle.relation_proving.specs.Candidates.{candidate_by, TellsCandidate}
-use Rattle.relation_proving.specs.Candidates.{AreVariablesFor, IsFirstOrderClause, MayAsk, MayTry, AsksFor, GivesNone, trait_tree, TellsOpened}
+use Rattle.relation_proving.specs.Candidates.{AreVariablesFor, IsFirstOrderClause, MayAsk, MayTry, AsksFor, GivesNone}
+use Rattle.relation_proving.specs.Candidates.{Say, trait_tree, TellsOpened}
 use Rattle.relation_proving.specs.Fitting.{AreMadeOne, AreToldApart, TellsFit}
 use Rattle.relation_proving.specs.RuleTerms.{OpensRule}
 
@@ -173,11 +176,11 @@ module _ {Key Id Name : Type 0} where
   -- Of a goal and what an opened rule gives, by what became of them.
   pub told_opened : (c d : Context Key Id Name) (env : ParamEnvKey Key) (g given : ClauseKey Key)
       (asks : List (ClauseKey Key)) (list : Vec (ClauseKey Key)) → list.items ≡ asks → (q p : TraitPredicate Key Id) →
-      IsBodyOf c.meaning g q → IsBodyOf c.meaning given p → (fitting : Fitting) →
-      TellsFit c d None trait_tree env q p fitting → TellsOpened c d env g given asks (candidate_by list fitting)
-  told_opened c d env g given asks list is q p a b Fits f = (is, (q, p, record { goal = a; gives = b }, f))
-  told_opened c d env g given asks list is q p a b Apart f = (q, p, record { goal = a; gives = b }, f)
-  told_opened c d env g given asks list is q p a b Left f = tt
+      Say c.meaning g given q p → (fitting : Fitting) → TellsFit c d None trait_tree env q p fitting →
+      TellsOpened c d env g given asks (candidate_by list fitting)
+  told_opened c d env g given asks list is q p a Fits f = (is, (q, p, a, f))
+  told_opened c d env g given asks list is q p a Apart f = (q, p, a, f)
+  told_opened c d env g given asks list is q p a Left f = tt
 
   -- What a clause says may be related where the clause may be a goal.
   pub relatable : (c : Context Key Id Name) (k : ClauseKey Key) (p : TraitPredicate Key Id) → IsBodyOf c.meaning k p →
@@ -219,4 +222,24 @@ module _ {Key Id Name : Type 0} where
         is_known = All-head (λ k. IsTrue (known ((d.meaning).clause k))) given asks opened.are_known;
         is_in = All-head (λ k. IsTermIn d.store ((d.meaning).clause k)) given asks opened.are_in;
         taken = All-head (λ k. IsWellBound ((d.meaning).clause k)) given asks opened.are_taken;
+      }
+
+  -- So both may be related.
+  pub may_fit : (c : Context Key Id Name) (e : ParamEnvKey Key) (g given : ClauseKey Key)
+      (q p : TraitPredicate Key Id) → c.lawful → KnowsEnv c e → MayAsk c g → MayAsk c given →
+      Say c.meaning g given q p → CanRelate c None trait_tree (λ m a b. Unit {0}) e Invariant q p
+  may_fit c e g given q p l k h i a =
+      let left = relatable c g q a.goal h in
+      let right = relatable c given p a.gives i in
+      record {
+        lawful = l;
+        decides = λ d. absurd cc;
+        env_known = k;
+        lhs_known = left.0;
+        rhs_known = right.0;
+        fits = tt;
+        lhs_taken = left.1;
+        rhs_taken = right.1;
+        lhs_in = left.2;
+        rhs_in = right.2;
       }

@@ -5,3 +5,4 @@ pub mod Candidates
 pub mod GoingOn
 pub mod Answering
 pub mod Searches
+pub mod Meaning

@@ -1,9 +1,9 @@
 -- What the answers of a solver mean, of first-order rules, goals and records.
 --
---   YesIsSound c d ks g result        after a yes each solution is one before, and makes the goal follow
---   YesIsPrincipal c d ks g result    each solution before under which it follows goes on
---   NoMeansNone c ks g result         after a no it follows under none, at no depth
---   LeavesNothing c d result          where it isn't yes, what is recorded is what was
+--   YesMakesFollow c d ks g result   after a yes each solution is one before, and makes the goal follow
+--   YesLosesNone c d ks g result     each solution before under which it follows goes on
+--   NoFollowsNever c d ks g result   after a no it follows under none, at no depth
+--   LeavesNothing c d ks g result    where it isn't yes, what is recorded is what was
 use Rattle.std.specs.Prelude.{List, [], Result, Ok, Err}
 use Rattle.relation_terms.specs.declared.terms.binder.Binder.{Binder}
 use Rattle.relation_terms.specs.declared.terms.keys.ClauseKey.{ClauseKey}
@@ -22,26 +22,26 @@ use Rattle.relation_proving.specs.declared.told.Told.TheVariants.{Yes, No, Maybe
 module _ {Key Id Name F : Type 0} (c d : Context Key Id Name) (ks : List (Binder Key (ClausesKey Key)))
     (g : ClauseKey Key) where
   -- After a yes each solution was one before, and makes the goal follow.
-  abbrev pub YesIsSound : Result Told F → Type 0
-  YesIsSound (Ok Yes) = (rs : List Rule) → IsExact (c.store).universe c ks rs → IsFirstOrderClause (goal_tree c g) →
+  abbrev pub YesMakesFollow : Result Told F → Type 0
+  YesMakesFollow (Ok Yes) = (rs : List Rule) → IsExact (c.store).universe c ks rs → IsFirstOrderClause (goal_tree c g) →
       (s : Assign) → IsErasedSolution d.store s →
       IsErasedSolution c.store s × Follows (c.store).universe [] rs (one (apply s (goal_tree c g)))
-  YesIsSound result = Unit {0}
+  YesMakesFollow result = Unit {0}
 
   -- After a yes no solution is lost under which the goal follows: what was bound had to be so.
-  abbrev pub YesIsPrincipal : Result Told F → Type 0
-  YesIsPrincipal (Ok Yes) = (rs : List Rule) → IsExact (c.store).universe c ks rs →
+  abbrev pub YesLosesNone : Result Told F → Type 0
+  YesLosesNone (Ok Yes) = (rs : List Rule) → IsExact (c.store).universe c ks rs →
       IsFirstOrderClause (goal_tree c g) → (s : Assign) → IsErasedSolution c.store s →
       Follows (c.store).universe [] rs (one (apply s (goal_tree c g))) →
       HasErasedExtension c.store s (IsErasedSolution d.store)
-  YesIsPrincipal result = Unit {0}
+  YesLosesNone result = Unit {0}
 
   -- After a no the goal follows under no solution, at no depth.
-  abbrev pub NoMeansNone : Result Told F → Type 0
-  NoMeansNone (Ok No) = (rs : List Rule) → IsExact (c.store).universe c ks rs → IsFirstOrderClause (goal_tree c g) →
+  abbrev pub NoFollowsNever : Result Told F → Type 0
+  NoFollowsNever (Ok No) = (rs : List Rule) → IsExact (c.store).universe c ks rs → IsFirstOrderClause (goal_tree c g) →
       (s : Assign) → IsErasedSolution c.store s →
       Follows (c.store).universe [] rs (one (apply s (goal_tree c g))) → ⊥
-  NoMeansNone result = Unit {0}
+  NoFollowsNever result = Unit {0}
 
   -- Where the answer isn't yes, what is recorded is what was.
   abbrev pub LeavesNothing : Result Told F → Type 0

@@ -1,11 +1,9 @@
 //! Whether a goal may follow by a rule, and what that asks for.
-ghost use Rattle.std.specs.Prelude.{◌≡◌, IfOk, IfSome, IsTrue};
+ghost use Rattle.std.specs.Prelude.{◌≡◌, IfOk, IfSome};
 ghost use Rattle.relation_terms.specs.Meaning.{Extends};
-ghost use Rattle.relation_terms.specs.Trees.{known};
 ghost use Rattle.relation_semantics.specs.Contexts.{KnowsEnv};
 ghost use Rattle.relation_semantics.specs.Steps.{IsLater};
-ghost use Rattle.relation_proving.specs.Bodies.{IsBodyOf};
-ghost use Rattle.relation_proving.specs.Candidates.{candidate_by, MayAsk, TellsOpened, TellsCandidate};
+ghost use Rattle.relation_proving.specs.Candidates.{candidate_by, MayAsk, Say, TellsOpened, TellsCandidate};
 ghost use Rattle.relation_proving.specs.RuleTerms.{KnowsRule, TakesRule, HasRule};
 
 use crate::fitting::{Fitting, fit};
@@ -13,7 +11,7 @@ use crate::opening::{RuleOf, open_rule};
 use crate::reading::{TraitPredicateOf, trait_body};
 use relation_folds::error::RelateResult;
 use relation_semantics::infer_ctxt::InferCtxtLike;
-use relation_terms::terms::{Clause, ClauseKey, Interner, Keys, ParamEnv, Span};
+use relation_terms::terms::{Clause, ClauseKey, Keys, ParamEnv, Span};
 
 /// What became of a rule that was tried for a goal, over keys.
 #[derive(Drop)]
@@ -41,17 +39,17 @@ fn candidate_of<X>(fitting: Fitting, asks: Vec<ClauseKey<X>>) -> Candidate<X>
     }
 }
 
-// What two clauses of traits say whose binders bind nothing.
-fn bodies<I: Interner>(
-    cx: &I,
-    goal: &Clause<I>,
-    given: &Clause<I>,
-) -> Option<(TraitPredicateOf<I>, TraitPredicateOf<I>)>
-    requires goal_known { IsTrue (known ((I.meaning cx.now).clause goal.now)) }
-    requires given_known { IsTrue (known ((I.meaning cx.now).clause given.now)) }
-    ensures goal { IfSome result (λ p. IsBodyOf (I.meaning cx.now) goal.now p.0) }
-    ensures given { IfSome result (λ p. IsBodyOf (I.meaning cx.now) given.now p.1) }
+// What a goal and what a rule gives say of traits, where both are such clauses and their binders bind nothing.
+fn bodies<C: InferCtxtLike>(
+    ctx: &C,
+    goal: &Clause<C::Interner>,
+    given: &Clause<C::Interner>,
+) -> Option<(TraitPredicateOf<C::Interner>, TraitPredicateOf<C::Interner>)>
+    requires goal { MayAsk (C.state ctx.now) goal.now }
+    requires given { MayAsk (C.state ctx.now) given.now }
+    ensures { IfSome result (λ p. Say (C.state ctx.now).meaning goal.now given.now p.0 p.1) }
 {
+    let cx = ctx.cx();
     let goal = trait_body(cx, goal)?;
     let given = trait_body(cx, given)?;
     Some((goal, given))
@@ -70,12 +68,13 @@ fn try_opened<C: InferCtxtLike>(
     requires env_known { KnowsEnv (C.state ctx.old) param_env }
     requires goal { MayAsk (C.state ctx.old) goal.now }
     requires given { MayAsk (C.state ctx.old) given.now }
-    ensures tells { IfOk result (TellsOpened (C.state ctx.old) (C.state ctx.new) param_env goal.now given.now asks.now) }
+    ensures tells { let c = C.state ctx.old in
+        IfOk result (TellsOpened c (C.state ctx.new) param_env goal.now given.now asks.now) }
     ensures later { IsLater (C.state ctx.old).store (C.state ctx.new).store }
     ensures lawful { (C.state ctx.new).lawful }
     ensures grown { Extends (C.state ctx.old).meaning (C.state ctx.new).meaning }
 {
-    let Some((goal, given)) = bodies(ctx.cx(), goal, given) else {
+    let Some((goal, given)) = bodies(&*ctx, goal, given) else {
         return Ok(Candidate::Unclear);
     };
     let fitting = fit(ctx, param_env, goal, given, span)?;

@@ -5,7 +5,7 @@ ghost use Rattle.relation_semantics.specs.Steps.{IsLater};
 ghost use Rattle.relation_proving.specs.Candidates.{MayAsk};
 ghost use Rattle.relation_proving.specs.Telling.{MayUse, MayProve, GoesOn, IsBack, TellsGoal, TellsAll, TellsRule};
 ghost use Rattle.relation_proving.specs.Searching.{TellsRound, TellsTried};
-ghost use Rattle.relation_proving.specs.Answers.{YesIsSound, YesIsPrincipal, NoMeansNone, LeavesNothing};
+ghost use Rattle.relation_proving.specs.Answers.{YesMakesFollow, YesLosesNone, NoFollowsNever, LeavesNothing};
 
 use crate::candidate::{Candidate, try_rule};
 use crate::opening::RuleOf;
@@ -45,9 +45,9 @@ pub fn prove<C: KeepsRecord>(
 ) -> RelateResult<C::Interner, Told>
     requires may { MayProve (C.state ctx.old) rules.now param_env }
     requires goal { MayAsk (C.state ctx.old) goal.now }
-    ensures sound { YesIsSound (C.state ctx.old) (C.state ctx.new) rules.now goal.now result }
-    ensures principal { YesIsPrincipal (C.state ctx.old) (C.state ctx.new) rules.now goal.now result }
-    ensures none { NoMeansNone (C.state ctx.old) (C.state ctx.new) rules.now goal.now result }
+    ensures sound { YesMakesFollow (C.state ctx.old) (C.state ctx.new) rules.now goal.now result }
+    ensures principal { YesLosesNone (C.state ctx.old) (C.state ctx.new) rules.now goal.now result }
+    ensures none { NoFollowsNever (C.state ctx.old) (C.state ctx.new) rules.now goal.now result }
     ensures back { LeavesNothing (C.state ctx.old) (C.state ctx.new) rules.now goal.now result }
     ensures later { IsLater (C.state ctx.old).store (C.state ctx.new).store }
     ensures lawful { (C.state ctx.new).lawful }

@@ -1,0 +1,50 @@
+-- What the answers of a solver mean, by the laws of traces.
+use Rattle.std.proofs.Common.{List, []}
+use Rattle.std.specs.Prelude.{IfOk, Result, Ok, Err}
+use Rattle.std.proofs.lemmas.List.Elements.{All-nil}
+use Rattle.relation_terms.specs.declared.terms.binder.Binder.{Binder}
+use Rattle.relation_terms.specs.declared.terms.keys.ClauseKey.{ClauseKey}
+use Rattle.relation_terms.specs.declared.terms.keys.ClausesKey.{ClausesKey}
+use Rattle.relation_terms.specs.Trees.{Leaves}
+use Rattle.relation_semantics.specs.Contexts.{Context}
+use Rattle.relation_semantics.specs.Relation.{IsValueLeaf}
+use Rattle.relation_semantics.proofs.Standing.{term_context}
+use Rattle.relation_solver.specs.Solving.{YesIsSound, YesIsPrincipal, NoMeansNone}
+use Rattle.relation_proving.specs.Answers.{YesMakesFollow, YesLosesNone, NoFollowsNever, LeavesNothing}
+use Rattle.relation_proving.specs.Candidates.{MayAsk}
+use Rattle.relation_proving.specs.Telling.{goal_tree, TellsGoal}
+use Rattle.relation_proving.specs.declared.told.Told.{Told}
+use Rattle.relation_proving.specs.declared.told.Told.TheVariants.{Yes, No, Maybe}
+
+module _ {Key Id Name F : Type 0} (c d : Context Key Id Name) (ks : List (Binder Key (ClausesKey Key)))
+    (g : ClauseKey Key) where
+  pub makes_follow : YesIsSound → (result : Result Told F) → IfOk result (TellsGoal c d ks g) →
+      YesMakesFollow c d ks g result
+  makes_follow law (Ok Yes) t = λ rs x f s h. law (c.store).universe [] rs c.store d.store (goal_tree c g)
+      (All-nil (Leaves IsValueLeaf)) (t (c.store).universe rs x f).did s h
+  makes_follow law (Ok No) t = tt
+  makes_follow law (Ok (Maybe why)) t = tt
+  makes_follow law (Err e) t = tt
+
+  pub loses_none : YesIsPrincipal → MayAsk c g → (result : Result Told F) → IfOk result (TellsGoal c d ks g) →
+      YesLosesNone c d ks g result
+  loses_none law a (Ok Yes) t = λ rs x f s h k. law (c.store).universe [] rs c.store d.store (goal_tree c g)
+      (All-nil (Leaves IsValueLeaf)) (term_context c.store (goal_tree c g) a.is_in)
+      (t (c.store).universe rs x f).did s h k
+  loses_none law a (Ok No) t = tt
+  loses_none law a (Ok (Maybe why)) t = tt
+  loses_none law a (Err e) t = tt
+
+  pub follows_never : NoMeansNone → MayAsk c g → (result : Result Told F) → IfOk result (TellsGoal c d ks g) →
+      NoFollowsNever c d ks g result
+  follows_never law a (Ok Yes) t = tt
+  follows_never law a (Ok No) t = λ rs x f s h k. law (c.store).universe [] rs c.store (goal_tree c g)
+      (All-nil (Leaves IsValueLeaf)) (term_context c.store (goal_tree c g) a.is_in) (t.1 (c.store).universe rs x f) s h k
+  follows_never law a (Ok (Maybe why)) t = tt
+  follows_never law a (Err e) t = tt
+
+  pub leaves_nothing : (result : Result Told F) → IfOk result (TellsGoal c d ks g) → LeavesNothing c d ks g result
+  leaves_nothing (Ok Yes) t = tt
+  leaves_nothing (Ok No) t = (t.0).same
+  leaves_nothing (Ok (Maybe why)) t = t.same
+  leaves_nothing (Err e) t = tt
