@@ -1,5 +1,5 @@
 -- What is told of goals, of lists and of rules, put together.
-use Rattle.std.proofs.Common.{◌≡◌, ℕ, zero, suc, ◌<◌, List, [], ◌∷◌, ◌++◌, refl, sym, ◌∙◌, ap, subst, map, All, length}
+use Rattle.std.proofs.Common.{◌≡◌, ℕ, zero, suc, ◌<◌, ◌≤◌, List, [], ◌∷◌, ◌++◌, refl, sym, ◌∙◌, ap, subst, map, All, length}
 use Rattle.std.proofs.Common.{get_or, take, drop, arith, IsTrue}
 use Rattle.std.specs.Prelude.{Contains, IfOk, Result, Ok, Err}
 use Rattle.std.specs.Global.{Vec}
@@ -150,6 +150,12 @@ module _ {Key Id Name : Type 0} where
           store = l.store;
         }
 
+    -- Nothing is left.
+    pub asking_ended : (d : Context Key Id Name) (left : List (ClauseKey Key)) → length left ≤ 0 →
+        AsksOn c d ks asks left → TellsAll c d ks asks Yes
+    asking_ended d [] l a = asking_ends d a
+    asking_ended d (g ∷ gs) l a = absurd (omega (arith, l))
+
     module _ (d e : Context Key Id Name) (left : List (ClauseKey Key)) (uses : All (MayUse c) ks)
         (a : AsksOn c d ks asks left) (on : GoesOn d e) where
       exact_then : (u : ℕ) (rs : List Rule) → IsExact u c ks rs → IsFirstOrderAt u d.store → IsExact u d ks rs
@@ -192,3 +198,16 @@ module _ {Key Id Name : Type 0} where
           (without_at (goal_tree d) left t.0 t.2.0 t.1 t.2.1)
           (t.2.2.1 u rs (exact_then u rs x l.store)
           (is_goal t.0 t.2.0 t.1 t.2.1 (λ g. IsFirstOrderClause (goal_tree d g)) l.first_order))
+
+  -- A goal of a list that was asked in a context which is back.
+  module _ (c d e : Context Key Id Name) (b : IsBack c d) (ks : List (Binder Key (ClausesKey Key)))
+      (uses : All (MayUse c) ks) (gs : List (ClauseKey Key)) (asked : All (MayAsk c) gs) (i : ℕ) (l : i < length gs)
+      (g : ClauseKey Key) (is : g ≡ get_or gs i g) where
+    may_ask : MayAsk c g
+    may_ask = subst (MayAsk c) (sym is) (All-get_or (MayAsk c) gs i g l asked)
+
+    pub round_proved : TellsGoal d e ks g Yes → TellsRound c e ks gs (Proved i)
+    round_proved t = (l, (g, is, goal_back c d e b ks uses g may_ask Yes t))
+
+    pub round_failed : TellsGoal d e ks g No → TellsRound c e ks gs Failed
+    round_failed t = (i, l, (g, is, goal_back c d e b ks uses g may_ask No t))

@@ -1,0 +1,296 @@
+-- What each call asks for and tells.
+use Rattle.std.proofs.Common.{rules, arith, ◌≡◌, ◌≤◌, ◌<◌, ◌+◌, ◌-◌, ◌*◌, refl, sym, ap, ◌∙◌, subst, [], length, All}
+use Rattle.relation_semantics.specs.Contexts.{Context}
+use Rattle.relation_solver.proofs.Kept.{may_put_back}
+use Rattle.relation_proving.specs.declared.searching.Round.TheVariants.{Proved, Failed}
+use Rattle.relation_proving.specs.Candidates.{MayAsk}
+use Rattle.relation_proving.specs.Telling.{MayUse, GoesOn}
+use Rattle.relation_proving.specs.Searching.{TellsRound}
+use Rattle.relation_proving.proofs.GoingOn.{goes_itself, goes_through, back_itself, back_through, back_goes, use_on}
+use Rattle.relation_proving.proofs.GoingOn.{uses_on, proves_on, ask_on, asks_on}
+use Rattle.relation_proving.proofs.Answering.{by_asks_result, by_apart, AsksOn, asking_begins, asking_ended}
+use Rattle.relation_proving.proofs.Answering.{asking_goes_on, asking_fails, round_proved, round_failed}
+use Rattle.relation_proving.proofs.Searches.{Searches, search_begins, search_goes_on, may_settle, settles_goes}
+use Rattle.relation_proving.proofs.Searches.{settles_tells, tried_tells, put_back_grown, put_back_back}
+use Rattle.relation_proving.proofs.proving.+proving.Goals as goal
+
+-- A goal.
+pub follows-returns-then-depth-eq0 : goal.follows-returns-then-depth-eq0
+follows-returns-then-depth-eq0 g t c =
+    let s = g.C.InferCtxtLike.state c.args.ctx.now in
+    record { goes_on = goes_itself s c.requires.may.lawful; tells = back_itself s c.requires.may.lawful }
+
+pub follows-loop-rule-init : goal.follows-loop-rule-init
+follows-loop-rule-init g t c =
+    let s = g.C.InferCtxtLike.state c.args.ctx.now in
+    search_begins g.C.InferCtxtLike.state g.C.KeepsRecord.with_record s c.args.rules.now c.args.goal.now c.args.ctx.now
+    (back_itself s c.requires.may.lawful)
+
+pub follows-try_and_put_back-requires : goal.follows-try_and_put_back-requires
+follows-try_and_put_back-requires g t c κs within =
+    let s = g.C.InferCtxtLike.state c.args.ctx.now in
+    let d = g.C.InferCtxtLike.state c.loop-rule.ctx in
+    let on = back_goes s d c.loop-rule.invariant.back in
+    let m = c.decreases in
+    let may = proves_on s d on c.args.rules.now c.args.param_env c.requires.may in
+    let used = uses_on s d on c.args.rules.now c.requires.may.rules c.loop-rule.rule-index c.rule-item.result
+    c.loop-rule-test.true in
+    let use = subst (λ k. MayUse d k) (sym c.rule-item.is) used in
+    let asked = ask_on s d on c.args.goal.now c.requires.goal in
+    search rules
+
+pub follows-returns-in_err-tried : goal.follows-returns-in_err-tried
+follows-returns-in_err-tried g t c =
+    let s = g.C.InferCtxtLike.state c.args.ctx.now in
+    let d = g.C.InferCtxtLike.state c.loop-rule.ctx in
+    let e = g.C.InferCtxtLike.state c.try_and_put_back.new.ctx in
+    record { goes_on = goes_through s d e (back_goes s d c.loop-rule.invariant.back) c.in_err-tried.ensures.goes_on; tells = tt }
+
+pub follows-loop-rule-preserved : goal.follows-loop-rule-preserved
+follows-loop-rule-preserved g t c =
+    let s = g.C.InferCtxtLike.state c.args.ctx.now in
+    let inv = c.loop-rule.invariant in
+    subst (Searches g.C.InferCtxtLike.state g.C.KeepsRecord.with_record s c.args.rules.now c.args.goal.now
+    c.try_and_put_back.new.ctx (c.loop-rule.rule-index + 1)) (sym c.with_tried.ensures)
+    (search_goes_on g.C.InferCtxtLike.state g.C.KeepsRecord.with_record s c.args.rules.now c.args.goal.now
+    c.loop-rule.ctx c.try_and_put_back.new.ctx c.loop-rule.rule-index c.rule-item.result c.loop-rule-test.true
+    c.rule-item.is c.requires.may.rules c.requires.goal inv.back c.in_ok-tried.ensures.back c.loop-rule.search
+    c.in_ok-tried.tried inv.tells c.in_ok-tried.ensures.tells)
+
+pub follows-settle-requires : goal.follows-settle-requires
+follows-settle-requires g t c =
+    let s = g.C.InferCtxtLike.state c.args.ctx.now in
+    let test = c.loop-rule-test.false in
+    may_settle g.C.InferCtxtLike.state g.C.KeepsRecord.with_record s c.args.rules.now c.args.goal.now
+    g.met.C.KeepsRecord.stands c.loop-rule.ctx c.loop-rule.rule-index (omega (arith, test)) c.loop-rule.search
+    c.loop-rule.invariant.tells
+
+pub follows-returns : goal.follows-returns
+follows-returns g t c =
+    let s = g.C.InferCtxtLike.state c.args.ctx.now in
+    let test = c.loop-rule-test.false in
+    let all : length c.args.rules.now ≤ c.loop-rule.rule-index = omega (arith, test) in
+    record {
+      goes_on = settles_goes g.C.InferCtxtLike.state g.C.KeepsRecord.with_record s c.args.rules.now c.args.goal.now
+          g.met.C.KeepsRecord.stands c.loop-rule.ctx c.loop-rule.rule-index all c.loop-rule.search
+          c.loop-rule.invariant c.settle.new.ctx c.settle.ensures.leaves;
+      tells = settles_tells g.C.InferCtxtLike.state g.C.KeepsRecord.with_record s c.args.rules.now c.args.goal.now
+          g.met.C.KeepsRecord.stands c.loop-rule.ctx c.loop-rule.rule-index all c.loop-rule.search
+          c.loop-rule.invariant c.settle.new.ctx c.settle.ensures.leaves c.settle.result c.settle.ensures.told;
+    }
+
+-- A rule that is tried, and the record put back.
+pub try_and_put_back-keep-requires : goal.try_and_put_back-keep-requires
+try_and_put_back-keep-requires g t c = c.requires.may.lawful
+
+pub try_and_put_back-returns-in_err-before : goal.try_and_put_back-returns-in_err-before
+try_and_put_back-returns-in_err-before g t c = record {
+  goes_on = goes_itself (g.C.InferCtxtLike.state c.args.ctx.now) c.requires.may.lawful;
+  back = tt;
+  tells = tt;
+}
+
+pub try_and_put_back-keep_told-requires : goal.try_and_put_back-keep_told-requires
+try_and_put_back-keep_told-requires g t c = c.in_ok-told.ensures.goes_on.lawful
+
+pub try_and_put_back-put_back-requires : goal.try_and_put_back-put_back-requires
+try_and_put_back-put_back-requires g t c =
+    may_put_back g.C.InferCtxtLike.state g.C.KeepsRecord.with_record c.in_ok-before.before c.args.ctx.now
+    c.follows_by.new.ctx c.in_ok-before.ensures (g.met.C.KeepsRecord.stands c.in_ok-before.before)
+    c.in_ok-told.ensures.goes_on.grown
+
+pub try_and_put_back-returns : goal.try_and_put_back-returns
+try_and_put_back-returns g t c =
+    let state = g.C.InferCtxtLike.state in
+    let with_record = g.C.KeepsRecord.with_record in
+    let s = state c.args.ctx.now in
+    let back = put_back_back state with_record c.args.ctx.now c.follows_by.new.ctx c.put_back.new.self
+    c.in_ok-before.before c.in_ok-before.ensures (g.met.C.KeepsRecord.stands c.in_ok-before.before)
+    c.in_ok-told.ensures.goes_on.grown c.put_back.ensures in
+    let grown = put_back_grown state with_record c.args.ctx.now c.follows_by.new.ctx c.put_back.new.self
+    c.in_ok-before.before c.in_ok-before.ensures (g.met.C.KeepsRecord.stands c.in_ok-before.before)
+    c.in_ok-told.ensures.goes_on.grown c.put_back.ensures in
+    record {
+      goes_on = back_goes s (state c.put_back.new.self) back;
+      back = back;
+      tells = tried_tells state with_record s c.args.rules.now c.args.rule c.args.goal.now c.follows_by.new.ctx
+          c.put_back.new.self c.in_ok-told.ensures.goes_on grown c.in_ok-told.told c.in_ok-tried.tried
+          c.in_ok-told.ensures.tells c.in_ok-tried.ensures;
+    }
+
+-- One rule.
+pub follows_by-try_rule-requires : goal.follows_by-try_rule-requires
+follows_by-try_rule-requires g t c = record {
+  lawful = c.requires.may.lawful;
+  env_known = c.requires.may.env_known;
+  rule_known = c.requires.rule.is_known;
+  rule_taken = c.requires.rule.taken;
+  rule_in = c.requires.rule.is_in;
+  goal = c.requires.goal;
+}
+
+pub follows_by-all_follow-requires : goal.follows_by-all_follow-requires
+follows_by-all_follow-requires g t c κs within =
+    let s = g.C.InferCtxtLike.state c.args.ctx.now in
+    let d = g.C.InferCtxtLike.state c.try_rule.new.ctx in
+    let e = c.in_ok-try_rule.ensures in
+    let on : GoesOn s d = record { later = e.later; lawful = e.lawful; grown = e.grown } in
+    let m = c.decreases in
+    let may = proves_on s d on c.args.rules.now c.args.param_env c.requires.may in
+    let asks = c.in-Asks.ensures.tells.0 in
+    search rules
+
+pub follows_by-returns-in-Asks : goal.follows_by-returns-in-Asks
+follows_by-returns-in-Asks g t c =
+    let s = g.C.InferCtxtLike.state c.args.ctx.now in
+    let d = g.C.InferCtxtLike.state c.try_rule.new.ctx in
+    let f = g.C.InferCtxtLike.state c.all_follow.new.ctx in
+    let e = c.in_ok-try_rule.ensures in
+    let on : GoesOn s d = record { later = e.later; lawful = e.lawful; grown = e.grown } in
+    record {
+      goes_on = goes_through s d f on c.all_follow.ensures.goes_on;
+      tells = by_asks_result s d f c.args.rule c.args.goal.now c.args.rules.now on c.requires.may.rules c.in-Asks.asks
+          c.in-Asks.ensures.tells c.all_follow.result c.all_follow.ensures.tells;
+    }
+
+pub follows_by-returns-in-Apart : goal.follows_by-returns-in-Apart
+follows_by-returns-in-Apart g t c =
+    let s = g.C.InferCtxtLike.state c.args.ctx.now in
+    let d = g.C.InferCtxtLike.state c.try_rule.new.ctx in
+    let e = c.in_ok-try_rule.ensures in
+    let on : GoesOn s d = record { later = e.later; lawful = e.lawful; grown = e.grown } in
+    record {
+      goes_on = on;
+      tells = by_apart s d d c.args.rule c.args.goal.now c.args.rules.now on c.requires.may.rules
+          c.in-Apart.ensures.tells;
+    }
+
+-- A list.
+pub all_follow-rounds-init : goal.all_follow-rounds-init
+all_follow-rounds-init g t c = asking_begins (g.C.InferCtxtLike.state c.args.ctx.now) c.args.rules.now
+    c.args.asks.items c.requires.may.lawful c.requires.asks
+
+pub all_follow-one_follows-requires : goal.all_follow-one_follows-requires
+all_follow-one_follows-requires g t c κs within =
+    let s = g.C.InferCtxtLike.state c.args.ctx.now in
+    let d = g.C.InferCtxtLike.state c.rounds.ctx in
+    let on = c.rounds.invariant.goes_on in
+    let m = c.decreases in
+    let may = proves_on s d on c.args.rules.now c.args.param_env c.requires.may in
+    let asked = subst (All (MayAsk d)) (sym c.deref.ensures.value) c.rounds.invariant.may_ask in
+    search rules
+
+pub all_follow-returns-in_err-one_follows : goal.all_follow-returns-in_err-one_follows
+all_follow-returns-in_err-one_follows g t c =
+    let s = g.C.InferCtxtLike.state c.args.ctx.now in
+    let d = g.C.InferCtxtLike.state c.rounds.ctx in
+    let e = g.C.InferCtxtLike.state c.one_follows.new.ctx in
+    record { goes_on = goes_through s d e c.rounds.invariant.goes_on c.in_err-one_follows.ensures.goes_on; tells = tt }
+
+pub all_follow-rounds-preserved : goal.all_follow-rounds-preserved
+all_follow-rounds-preserved g t c =
+    let s = g.C.InferCtxtLike.state c.args.ctx.now in
+    let d = g.C.InferCtxtLike.state c.rounds.ctx in
+    let e = g.C.InferCtxtLike.state c.one_follows.new.ctx in
+    let ks = c.args.rules.now in
+    let told : TellsRound d e ks c.rounds.left.items (Proved c.in-Proved.place) =
+    subst (λ gs. TellsRound d e ks gs (Proved c.in-Proved.place)) c.deref.ensures.value c.in-Proved.ensures.tells in
+    subst (AsksOn s e ks c.args.asks.items) (sym c.remove.ensures.items)
+    (asking_goes_on s ks c.args.asks.items d e c.rounds.left.items c.requires.may.rules c.rounds.invariant
+    c.in_ok-one_follows.ensures.goes_on c.in-Proved.place told)
+
+pub all_follow-returns-in-Failed : goal.all_follow-returns-in-Failed
+all_follow-returns-in-Failed g t c =
+    let s = g.C.InferCtxtLike.state c.args.ctx.now in
+    let d = g.C.InferCtxtLike.state c.rounds.ctx in
+    let e = g.C.InferCtxtLike.state c.one_follows.new.ctx in
+    let ks = c.args.rules.now in
+    let told : TellsRound d e ks c.rounds.left.items Failed =
+    subst (λ gs. TellsRound d e ks gs Failed) c.deref.ensures.value c.in-Failed.ensures.tells in
+    record {
+      goes_on = goes_through s d e c.rounds.invariant.goes_on c.in_ok-one_follows.ensures.goes_on;
+      tells = asking_fails s ks c.args.asks.items d e c.rounds.left.items c.requires.may.rules c.rounds.invariant
+          c.in_ok-one_follows.ensures.goes_on told;
+    }
+
+pub all_follow-returns-in-Stuck : goal.all_follow-returns-in-Stuck
+all_follow-returns-in-Stuck g t c =
+    let s = g.C.InferCtxtLike.state c.args.ctx.now in
+    let d = g.C.InferCtxtLike.state c.rounds.ctx in
+    let e = g.C.InferCtxtLike.state c.one_follows.new.ctx in
+    record {
+      goes_on = goes_through s d e c.rounds.invariant.goes_on c.in_ok-one_follows.ensures.goes_on;
+      tells = tt;
+    }
+
+pub all_follow-returns : goal.all_follow-returns
+all_follow-returns g t c =
+    let s = g.C.InferCtxtLike.state c.args.ctx.now in
+    let d = g.C.InferCtxtLike.state c.rounds.ctx in
+    record {
+      goes_on = c.rounds.invariant.goes_on;
+      tells = asking_ended s c.args.rules.now c.args.asks.items d c.rounds.left c.is_empty.result c.is_empty.ensures
+          c.if-not-is_empty.false c.rounds.invariant;
+    }
+
+-- One goal of a list.
+pub one_follows-loop-place-init : goal.one_follows-loop-place-init
+one_follows-loop-place-init g t c = back_itself (g.C.InferCtxtLike.state c.args.ctx.now) c.requires.may.lawful
+
+pub one_follows-follows-requires : goal.one_follows-follows-requires
+one_follows-follows-requires g t c κs within =
+    let s = g.C.InferCtxtLike.state c.args.ctx.now in
+    let d = g.C.InferCtxtLike.state c.loop-place.ctx in
+    let on = back_goes s d c.loop-place.invariant in
+    let m = c.decreases in
+    let may = proves_on s d on c.args.rules.now c.args.param_env c.requires.may in
+    let asked = asks_on s d on c.args.goals.now c.requires.goals c.loop-place.place c.index-goals-place.result
+    c.loop-place-test.true in
+    let ask = subst (MayAsk d) (sym c.index-goals-place.is) asked in
+    search rules
+
+pub one_follows-returns-in_err-follows : goal.one_follows-returns-in_err-follows
+one_follows-returns-in_err-follows g t c =
+    let s = g.C.InferCtxtLike.state c.args.ctx.now in
+    let d = g.C.InferCtxtLike.state c.loop-place.ctx in
+    let e = g.C.InferCtxtLike.state c.follows.new.ctx in
+    record {
+      goes_on = goes_through s d e (back_goes s d c.loop-place.invariant) c.in_err-follows.ensures.goes_on;
+      tells = tt;
+    }
+
+pub one_follows-returns-in-Yes : goal.one_follows-returns-in-Yes
+one_follows-returns-in-Yes g t c =
+    let s = g.C.InferCtxtLike.state c.args.ctx.now in
+    let d = g.C.InferCtxtLike.state c.loop-place.ctx in
+    let e = g.C.InferCtxtLike.state c.follows.new.ctx in
+    record {
+      goes_on = goes_through s d e (back_goes s d c.loop-place.invariant) c.in_ok-follows.ensures.goes_on;
+      tells = round_proved s d e c.loop-place.invariant c.args.rules.now c.requires.may.rules c.args.goals.now
+          c.requires.goals c.loop-place.place c.loop-place-test.true c.index-goals-place.result c.index-goals-place.is
+          c.in-Yes.ensures.tells;
+    }
+
+pub one_follows-returns-in-No : goal.one_follows-returns-in-No
+one_follows-returns-in-No g t c =
+    let s = g.C.InferCtxtLike.state c.args.ctx.now in
+    let d = g.C.InferCtxtLike.state c.loop-place.ctx in
+    let e = g.C.InferCtxtLike.state c.follows.new.ctx in
+    record {
+      goes_on = goes_through s d e (back_goes s d c.loop-place.invariant) c.in_ok-follows.ensures.goes_on;
+      tells = round_failed s d e c.loop-place.invariant c.args.rules.now c.requires.may.rules c.args.goals.now
+          c.requires.goals c.loop-place.place c.loop-place-test.true c.index-goals-place.result c.index-goals-place.is
+          c.in-No.ensures.tells;
+    }
+
+pub one_follows-loop-place-preserved : goal.one_follows-loop-place-preserved
+one_follows-loop-place-preserved g t c =
+    back_through (g.C.InferCtxtLike.state c.args.ctx.now) (g.C.InferCtxtLike.state c.loop-place.ctx)
+    (g.C.InferCtxtLike.state c.follows.new.ctx) c.loop-place.invariant c.in-Maybe.ensures.tells
+
+pub one_follows-returns : goal.one_follows-returns
+one_follows-returns g t c = record {
+  goes_on = back_goes (g.C.InferCtxtLike.state c.args.ctx.now) (g.C.InferCtxtLike.state c.loop-place.ctx)
+      c.loop-place.invariant;
+  tells = tt;
+}
