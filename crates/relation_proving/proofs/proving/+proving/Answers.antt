@@ -227,10 +227,10 @@ pub all_follow-returns : goal.all_follow-returns
 all_follow-returns g t c =
     let s = g.C.InferCtxtLike.state c.args.ctx.now in
     let d = g.C.InferCtxtLike.state c.rounds.ctx in
+    let none : length c.rounds.left.items ≤ 0 = search rules in
     record {
       goes_on = c.rounds.invariant.goes_on;
-      tells = asking_ended s c.args.rules.now c.args.asks.items d c.rounds.left c.is_empty.result c.is_empty.ensures
-          c.if-not-is_empty.false c.rounds.invariant;
+      tells = asking_ended s c.args.rules.now c.args.asks.items d c.rounds.left.items none c.rounds.invariant;
     }
 
 -- One goal of a list.
