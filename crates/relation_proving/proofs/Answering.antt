@@ -33,9 +33,10 @@ use Rattle.relation_proving.proofs.GoingOn.{goal_stays, goals_first_order, rule_
 -- A list without the element at a place.
 without_at : {X : Type 0} (f : X → Tree) (xs : List X) (i : ℕ) (x : X) → i < length xs → x ≡ get_or xs i x →
     Without (f x) (map f xs) (map f (remove xs i))
-without_at f [] i x l e = absurd (omega (arith, l))
+without_at f [] i x l e = let below : i < 0 = l in absurd (omega (arith, below))
 without_at f (y ∷ ys) zero x l e = subst (λ z. Without (f z) (f y ∷ map f ys) (map f ys)) (sym e) first
-without_at f (y ∷ ys) (suc i) x l e = later (without_at f ys i x (omega (arith, l)) e)
+without_at f (y ∷ ys) (suc i) x l e =
+    let below : suc i < suc (length ys) = l in later (without_at f ys i x (omega (arith, below)) e)
 
 module _ {Key Id Name : Type 0} where
   -- What is told of a goal in a context that is back is told of it in the one before.
@@ -154,7 +155,7 @@ module _ {Key Id Name : Type 0} where
     pub asking_ended : (d : Context Key Id Name) (left : List (ClauseKey Key)) → length left ≤ 0 →
         AsksOn c d ks asks left → TellsAll c d ks asks Yes
     asking_ended d [] l a = asking_ends d a
-    asking_ended d (g ∷ gs) l a = absurd (omega (arith, l))
+    asking_ended d (g ∷ gs) l a = let none : suc (length gs) ≤ 0 = l in absurd (omega (arith, none))
 
     module _ (d e : Context Key Id Name) (left : List (ClauseKey Key)) (uses : All (MayUse c) ks)
         (a : AsksOn c d ks asks left) (on : GoesOn d e) where

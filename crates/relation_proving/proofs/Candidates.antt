@@ -61,7 +61,7 @@ variables_for before after u (k ∷ ks) [] h = absurd h
 
 module _ {Key Id Name : Type 0} where
   -- Known clauses mean what they meant.
-  clauses_stay : (m n : Meaning Key Id Name) → Extends m n → (ks : List (ClauseKey Key)) →
+  pub clauses_stay : (m n : Meaning Key Id Name) → Extends m n → (ks : List (ClauseKey Key)) →
       All (λ k. IsTrue (known (m.clause k))) ks → map n.clause ks ≡ map m.clause ks
   clauses_stay m n e [] h = refl
   clauses_stay m n e (k ∷ ks) h = ap₂ (λ a b. a ∷ b)

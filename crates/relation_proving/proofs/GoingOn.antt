@@ -1,5 +1,6 @@
 -- What may be asked and used stays so in a later context, and what was first-order is.
-use Rattle.std.proofs.Common.{◌≡◌, ℕ, ◌<◌, List, [], ◌∷◌, refl, sym, ◌∙◌, subst, All, IsTrue}
+use Rattle.std.proofs.Common.{◌≡◌, ℕ, zero, suc, ◌<◌, List, [], ◌∷◌, refl, sym, ap, subst, All, IsTrue, length}
+use Rattle.std.proofs.Common.{get_or, arith}
 use Rattle.std.specs.List.{AllZip}
 use Rattle.std.proofs.lemmas.List.Elements.{All-head, All-tail}
 use Rattle.relation_terms.specs.declared.terms.binder.Binder.{Binder}
@@ -13,17 +14,32 @@ use Rattle.relation_terms.proofs.Stays.{stays_same, extends_on, knows_param_env}
 use Rattle.relation_semantics.specs.Bound.{IsWellBound}
 use Rattle.relation_semantics.specs.Contexts.{Context}
 use Rattle.relation_semantics.specs.Relation.{IsValueLeaf}
-use Rattle.relation_semantics.specs.Steps.{IsLater}
 use Rattle.relation_semantics.specs.Stores.{IsTermIn}
 use Rattle.relation_semantics.proofs.Going.{later_itself, later_same, later_through}
 use Rattle.relation_semantics.proofs.Standing.{later_term}
-use Rattle.relation_solver.specs.Records.{SameRecord}
+use Rattle.kept_records.specs.Records.{SameRecord}
 use Rattle.relation_solver.specs.Rules.{Rule}
-use Rattle.relation_solver.proofs.Kept.{same_through}
+use Rattle.kept_records.proofs.Kept.{same_through}
 use Rattle.relation_proving.specs.RuleTerms.{IsRule, rule_tree}
 use Rattle.relation_proving.specs.Candidates.{MayAsk, IsFirstOrderAt, IsFirstOrderClause, IsFirstOrderRule}
 use Rattle.relation_proving.specs.Telling.{MayUse, MayProve, GoesOn, IsBack, IsExact, goal_tree}
 use Rattle.relation_proving.proofs.Candidates.{ask_later}
+
+-- Two lists that go together place by place: they are as long, and so do their members at a place.
+pub zip_length : {A B : Type 0} (R : A → B → Type 0) (xs : List A) (ys : List B) → AllZip R xs ys →
+    length xs ≡ length ys
+zip_length R [] [] h = refl
+zip_length R (x ∷ xs) (y ∷ ys) h = ap suc (zip_length R xs ys h.1)
+zip_length R [] (y ∷ ys) h = absurd h
+zip_length R (x ∷ xs) [] h = absurd h
+
+pub zip_at : {A B : Type 0} (R : A → B → Type 0) (xs : List A) (ys : List B) (i : ℕ) (d : A) (e : B) →
+    AllZip R xs ys → i < length xs → R (get_or xs i d) (get_or ys i e)
+zip_at R [] ys i d e h l = let below : i < 0 = l in absurd (omega (arith, below))
+zip_at R (x ∷ xs) [] i d e h l = absurd h
+zip_at R (x ∷ xs) (y ∷ ys) zero d e h l = h.0
+zip_at R (x ∷ xs) (y ∷ ys) (suc i) d e h l =
+    let below : suc i < suc (length xs) = l in zip_at R xs ys i d e h.1 (omega (arith, below))
 
 module _ {Key Id Name : Type 0} where
   pub goes_itself : (c : Context Key Id Name) → c.lawful → GoesOn c c

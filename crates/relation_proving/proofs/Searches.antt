@@ -2,9 +2,8 @@
 use Rattle.std.proofs.Common.{◌≡◌, ℕ, suc, ◌+◌, ◌<◌, ◌≤◌, List, [], ◌∷◌, ◌++◌, refl, sym, ◌∙◌, ap, subst, map, All, length}
 use Rattle.std.proofs.Common.{get_or, take, arith}
 use Rattle.std.specs.Prelude.{Contains}
-use Rattle.std.specs.List.{AllZip}
 use Rattle.std.proofs.lemmas.List.{take_all, take_more}
-use Rattle.std.proofs.lemmas.List.Elements.{All-get_or, length_all_zip, AllZip-get_or, Contains-get_or}
+use Rattle.std.proofs.lemmas.List.Elements.{All-get_or, Contains-get_or}
 use Rattle.relation_terms.specs.declared.terms.binder.Binder.{Binder}
 use Rattle.relation_terms.specs.declared.terms.keys.ClauseKey.{ClauseKey}
 use Rattle.relation_terms.specs.declared.terms.keys.ClausesKey.{ClausesKey}
@@ -13,12 +12,12 @@ use Rattle.relation_terms.specs.Meaning.{Extends}
 use Rattle.relation_terms.proofs.Stays.{extends_on, stays_same}
 use Rattle.relation_semantics.specs.Contexts.{Context}
 use Rattle.relation_semantics.specs.Steps.{IsLater}
-use Rattle.relation_solver.specs.Records.{SameRecord, IsRecordOf, StandsOn}
+use Rattle.kept_records.specs.Records.{SameRecord, IsRecordOf, StandsOn}
 use Rattle.relation_solver.specs.Rules.{Rule, given}
 use Rattle.relation_solver.specs.Traces.{Did, goal, rule, yes, no, FollowsBy}
 use Rattle.relation_solver.proofs.Going.{AllFail, AllOthersFail, one_more_fails, first_found, one_other_fails, all_fail}
 use Rattle.relation_solver.proofs.Going.{takes_alone}
-use Rattle.relation_solver.proofs.Kept.{may_put_back, put_back_is, put_back_means}
+use Rattle.kept_records.proofs.Kept.{may_put_back, put_back_is, put_back_means}
 use Rattle.relation_proving.specs.declared.told.Why.{Why}
 use Rattle.relation_proving.specs.declared.told.Told.{Told}
 use Rattle.relation_proving.specs.declared.told.Told.TheVariants.{Yes, No, Maybe}
@@ -30,7 +29,7 @@ use Rattle.relation_proving.specs.Candidates.{MayAsk, IsFirstOrderAt, IsFirstOrd
 use Rattle.relation_proving.specs.Telling.{MayUse, GoesOn, IsBack, IsExact, goal_tree, TellsGoal, TellsRule}
 use Rattle.relation_proving.specs.Telling.{SaysYes, SaysYesBy}
 use Rattle.relation_proving.specs.Searching.{search_after, told_by, settled, HasKept, KeepsTold, MaySettle, TellsTried}
-use Rattle.relation_proving.proofs.GoingOn.{goes_through, back_through, back_goes, same_itself}
+use Rattle.relation_proving.proofs.GoingOn.{zip_length, zip_at, goes_through, back_through, back_goes}
 use Rattle.relation_proving.proofs.Answering.{rule_back}
 
 -- Which rule a place's key is, as a tree.
@@ -39,7 +38,7 @@ rule_at rs n = get_or rs n (given nil)
 
 module _ {S R Key Id Name : Type 0} (state : S → Context Key Id Name) (with_record : S → R → S) where
   -- A record that was kept may be put back also once the interner has come to know more.
-  kept_on : (c : Context Key Id Name) (now then : S) (r : R) → Extends (state now).meaning (state then).meaning →
+  abbrev kept_on : (c : Context Key Id Name) (now then : S) (r : R) → Extends (state now).meaning (state then).meaning →
       HasKept state with_record c now r → HasKept state with_record c then r
   kept_on c now then r e h = record {
     where_kept = h.where_kept;
@@ -83,11 +82,11 @@ module _ {S R Key Id Name : Type 0} (state : S → Context Key Id Name) (with_re
 
       module _ (u : ℕ) (rs : List Rule) (x : IsExact u c ks rs) where
         there : n < length rs
-        there = let same = length_all_zip (IsFirstOrderRule c) ks rs x.rules in omega (arith, l, same)
+        there = let same = zip_length (IsFirstOrderRule c) ks rs x.rules in omega (arith, l, same)
 
         is_rule : IsFirstOrderRule c k (rule_at rs n)
         is_rule = subst (λ z. IsFirstOrderRule c z (rule_at rs n)) (sym is)
-            (AllZip-get_or (IsFirstOrderRule c) ks rs n k (given nil) x.rules l)
+            (zip_at (IsFirstOrderRule c) ks rs n k (given nil) x.rules l)
 
         in_rules : Contains rs (rule_at rs n)
         in_rules = Contains-get_or rs n (given nil) there
@@ -106,7 +105,7 @@ module _ {S R Key Id Name : Type 0} (state : S → Context Key Id Name) (with_re
       follows d t u rs x f = rule_back c (state now) d b ks uses g asked k may_use Yes t u rs (rule_at rs n) x
           (is_rule u rs x) (in_rules u rs x) f
 
-      kept_before : (r : R) → HasKept state with_record (state now) then r → HasKept state with_record c then r
+      abbrev kept_before : (r : R) → HasKept state with_record (state now) then r → HasKept state with_record c then r
       kept_before r h = record {
         where_kept = h.where_kept;
         is = h.is;
@@ -165,7 +164,7 @@ module _ {S R Key Id Name : Type 0} (state : S → Context Key Id Name) (with_re
     module _ (stands : (r : R) → StandsOn state with_record r) (now : S) (n : ℕ) (all : length ks ≤ n) where
       whole : (u : ℕ) (rs : List Rule) → IsExact u c ks rs → take n rs ≡ rs
       whole u rs x =
-          let same = length_all_zip (IsFirstOrderRule c) ks rs x.rules in
+          let same = zip_length (IsFirstOrderRule c) ks rs x.rules in
           take_all n rs (omega (arith, all, same))
 
       pub may_settle : (search : Search R) → TellsSearch now n search → MaySettle state with_record now search

@@ -12,7 +12,7 @@ use Rattle.relation_terms.specs.Trees.{Assign, apply}
 use Rattle.relation_semantics.specs.Contexts.{Context}
 use Rattle.relation_semantics.specs.FirstOrder.{IsErasedSolution}
 use Rattle.relation_semantics.specs.Steps.{HasErasedExtension}
-use Rattle.relation_solver.specs.Records.{SameRecord}
+use Rattle.kept_records.specs.Records.{SameRecord}
 use Rattle.relation_solver.specs.Rules.{Rule, one, Follows}
 use Rattle.relation_proving.specs.Candidates.{IsFirstOrderClause}
 use Rattle.relation_proving.specs.Telling.{IsExact, goal_tree}

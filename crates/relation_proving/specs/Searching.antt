@@ -14,7 +14,7 @@ use Rattle.relation_terms.specs.declared.terms.keys.ClauseKey.{ClauseKey}
 use Rattle.relation_terms.specs.declared.terms.keys.ClausesKey.{ClausesKey}
 use Rattle.relation_terms.specs.Meaning.{Extends}
 use Rattle.relation_semantics.specs.Contexts.{Context}
-use Rattle.relation_solver.specs.Records.{IsRecordOf}
+use Rattle.kept_records.specs.Records.{IsRecordOf}
 use Rattle.relation_proving.specs.Telling.{GoesOn, IsBack, TellsGoal, TellsRule}
 use Rattle.relation_proving.specs.declared.told.Why.{Why}
 use Rattle.relation_proving.specs.declared.told.Why.TheVariants.{Ambiguous, Depth}

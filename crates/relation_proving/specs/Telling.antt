@@ -18,7 +18,7 @@ use Rattle.relation_terms.specs.Trees.{Tree}
 use Rattle.relation_terms.specs.Meaning.{Extends}
 use Rattle.relation_semantics.specs.Contexts.{Context, KnowsEnv}
 use Rattle.relation_semantics.specs.Steps.{IsLater}
-use Rattle.relation_solver.specs.Records.{SameRecord}
+use Rattle.kept_records.specs.Records.{SameRecord}
 use Rattle.relation_solver.specs.Rules.{Rule}
 use Rattle.relation_solver.specs.Traces.{Did, goal, goals, rule, yes, no, FollowsBy}
 use Rattle.relation_proving.specs.RuleTerms.{KnowsRule, TakesRule, HasRule}

@@ -13,7 +13,7 @@ use crate::searching::{Round, Search, Tried, keep_told, settle, with_tried, wors
 pub use crate::told::{Told, Why};
 use relation_folds::error::RelateResult;
 use relation_solver::laws;
-use relation_solver::records::KeepsRecord;
+use kept_records::KeepsRecord;
 use relation_terms::terms::{Clause, ParamEnv, Span};
 
 /// Whether a goal follows from rules, within a depth: such as impls, and what an environment has, each of its clauses

@@ -3,7 +3,7 @@ ghost use Rattle.std.specs.Prelude.{◌≡◌, IfOk};
 ghost use Rattle.relation_proving.specs.Searching.{worse_of, search_after, told_by, settled, KeepsTold, MaySettle};
 
 use crate::told::{Told, Why};
-use relation_solver::records::KeepsRecord;
+use kept_records::KeepsRecord;
 use relation_terms::terms::OutOfMemory;
 
 /// What became of the goals of a list that were asked one after another.

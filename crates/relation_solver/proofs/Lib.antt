@@ -4,5 +4,4 @@ pub mod Shadows
 pub mod Solving
 pub mod Deriving
 pub mod Bodies
-pub mod Kept
 pub mod Going

@@ -1,4 +1,3 @@
 pub mod Rules
 pub mod Traces
 pub mod Solving
-pub mod Records

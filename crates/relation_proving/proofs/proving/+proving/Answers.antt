@@ -1,7 +1,7 @@
 -- What each call asks for and tells.
 use Rattle.std.proofs.Common.{rules, arith, ◌≡◌, ◌≤◌, ◌<◌, ◌+◌, ◌-◌, ◌*◌, refl, sym, ap, ◌∙◌, subst, [], length, All}
 use Rattle.relation_semantics.specs.Contexts.{Context}
-use Rattle.relation_solver.proofs.Kept.{may_put_back}
+use Rattle.kept_records.proofs.Kept.{may_put_back}
 use Rattle.relation_proving.specs.declared.searching.Round.TheVariants.{Proved, Failed}
 use Rattle.relation_proving.specs.Candidates.{MayAsk}
 use Rattle.relation_proving.specs.Telling.{MayUse, GoesOn}

@@ -1,6 +1,8 @@
 //! Contexts whose record can be kept, and put back.
+#![tactic(auto)]
+
 ghost use Rattle.std.specs.Prelude.{◌≡◌, IfOk};
-ghost use Rattle.relation_solver.specs.Records.{IsRecordOf, StandsOn};
+ghost use Rattle.kept_records.specs.Records.{IsRecordOf, StandsOn};
 
 use relation_semantics::infer_ctxt::InferCtxtLike;
 use relation_terms::terms::OutOfMemory;

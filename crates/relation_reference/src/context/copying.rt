@@ -1,8 +1,8 @@
 //! A copy of the tables of a context.
 ghost use Rattle.std.specs.Prelude.{◌≡◌, IfOk};
-ghost use Rattle.reference_records.specs.Copies.{IsCopy};
+ghost use Rattle.relation_reference.specs.Copies.{IsCopy};
 
-use relation_reference::context::InferCtxtInner;
+use crate::context::InferCtxtInner;
 use relation_terms::terms::OutOfMemory;
 use std::alloc::Global;
 

@@ -2,7 +2,7 @@
 use Rattle.std.proofs.Common.{◌≡◌, ◌∙◌}
 use Rattle.relation_terms.specs.Meaning.{Extends}
 use Rattle.relation_semantics.specs.Contexts.{Context}
-use Rattle.relation_solver.specs.Records.{SameRecord, IsRecordOf, StandsOn}
+use Rattle.kept_records.specs.Records.{SameRecord, IsRecordOf, StandsOn}
 
 module _ {Key Id Name : Type 0} where
   pub same_through : (c d e : Context Key Id Name) → SameRecord c d → SameRecord d e → SameRecord c e

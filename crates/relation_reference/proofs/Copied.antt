@@ -14,8 +14,8 @@ use Rattle.variable_classes.specs.Roots.{root_in, IsRootTable}
 use Rattle.variable_tables.specs.Tables.{by_kind, store_of, keys_in, IsRooted, IsFilled, IsLawful, setup_in, context_of}
 use Rattle.variable_tables.specs.Variables.{entries_of, universes_of, trees_of}
 use Rattle.variable_tables.proofs.Grows.{store_grows, lawful_grows}
-use Rattle.relation_solver.specs.Records.{SameRecord, IsRecordOf, StandsOn}
-use Rattle.reference_records.specs.Copies.{IsCopy}
+use Rattle.kept_records.specs.Records.{SameRecord, IsRecordOf, StandsOn}
+use Rattle.relation_reference.specs.Copies.{IsCopy}
 
 -- While the interner grows the tables record the same, and stay lawful.
 pub stands_on : {I Key Id Name Span : Type 0} (meaning : I → Meaning Key Id Name) (r : InferCtxtInner Key) →

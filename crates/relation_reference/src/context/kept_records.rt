@@ -1,13 +1,13 @@
 //! What the plain context records, kept as a copy of its tables.
-use crate::copying::copied;
-use relation_reference::context::{InferCtxtInner, RefCtxt};
-use relation_solver::records::KeepsRecord;
+use crate::context::copying::copied;
+use crate::context::{InferCtxtInner, RefCtxt};
+use kept_records::KeepsRecord;
 use relation_terms::terms::{Interner, OutOfMemory};
 
 impl<I: Interner> KeepsRecord for RefCtxt<I> {
     type Record = InferCtxtInner<I::Key>;
 
-    ghost use Rattle.reference_records.proofs.Copied.{stands_on};
+    ghost use Rattle.relation_reference.proofs.Copied.{stands_on};
 
     ghost with_record = { λ c r. record c { inner = r } };
 

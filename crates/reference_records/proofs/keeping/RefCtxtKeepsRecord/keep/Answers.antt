@@ -1,5 +1,0 @@
-use Rattle.reference_records.proofs.Copied.{kept_is}
-use Rattle.reference_records.proofs.keeping.RefCtxtKeepsRecord.keep.Goals as goal
-
-pub returns : goal.returns
-returns g c = kept_is g.I.Interner.meaning c.args.self.now c.copied.result c.copied.ensures c.requires.lawful
