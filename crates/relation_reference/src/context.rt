@@ -8,7 +8,7 @@ mod folding;
 mod generalising;
 mod infer_ctxt;
 mod instantiating;
-mod kept_records;
+mod keeping;
 mod memory;
 mod numbers;
 mod own_variables;
