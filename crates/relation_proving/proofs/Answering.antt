@@ -1,18 +1,23 @@
 -- What is told of goals, of lists and of rules, put together.
 use Rattle.std.proofs.Common.{◌≡◌, ℕ, zero, suc, ◌<◌, ◌≤◌, List, [], ◌∷◌, ◌++◌, refl, sym, ◌∙◌, ap, subst, map, All, length}
-use Rattle.std.proofs.Common.{get_or, take, drop, arith, IsTrue}
+use Rattle.std.proofs.Common.{get_or, take, drop, arith, IsTrue, subst₂, le_trans}
 use Rattle.std.specs.Prelude.{Contains, IfOk, Result, Ok, Err}
 use Rattle.std.specs.Global.{Vec}
-use Rattle.std.specs.List.{remove}
+use Rattle.std.specs.List.{remove, AllZip}
 use Rattle.std.proofs.lemmas.List.Elements.{All-append, All-take, All-drop, All-get_or}
 use Rattle.relation_terms.specs.declared.terms.binder.Binder.{Binder}
 use Rattle.relation_terms.specs.declared.terms.keys.ClauseKey.{ClauseKey}
 use Rattle.relation_terms.specs.declared.terms.keys.ClausesKey.{ClausesKey}
+use Rattle.relation_terms.specs.declared.terms.keys.ParamEnvKey.{ParamEnvKey}
 use Rattle.relation_terms.specs.Trees.{Tree, known, inst}
-use Rattle.relation_semantics.specs.Contexts.{Context}
+use Rattle.relation_semantics.specs.Contexts.{Context, KnowsEnv}
+use Rattle.relation_semantics.specs.Lawful.{items_of}
+use Rattle.relation_semantics.proofs.Answering.{items_stay}
 use Rattle.relation_semantics.specs.Stores.{Store}
-use Rattle.relation_solver.specs.Rules.{Rule}
+use Rattle.relation_solver.specs.Rules.{Rule, one, all}
 use Rattle.relation_solver.specs.Traces.{Without, first, later, Did, goal, goals, rule, yes, no, FollowsBy}
+use Rattle.relation_solver.specs.Traces.{StandsFirst, Proves, took, none_asked, one_of}
+use Rattle.relation_solver.proofs.Deriving.{proved_in}
 use Rattle.relation_solver.proofs.Going.{LeavesToAsk, asks_begin, asks_go_on, asks_end, asks_fail}
 use Rattle.relation_solver.proofs.Going.{rule_is_apart, rule_fails, rule_follows}
 use Rattle.relation_proving.specs.declared.candidate.Candidate.{Candidate}
@@ -21,14 +26,15 @@ use Rattle.relation_proving.specs.declared.told.Told.{Told}
 use Rattle.relation_proving.specs.declared.told.Told.TheVariants.{Yes, No, Maybe}
 use Rattle.relation_proving.specs.declared.searching.Round.{Round}
 use Rattle.relation_proving.specs.declared.searching.Round.TheVariants.{Proved, Failed, Stuck}
-use Rattle.relation_proving.specs.Candidates.{MayAsk, MayTry, AsksFor, GivesNone, TellsCandidate}
+use Rattle.relation_proving.specs.Candidates.{MayAsk, MayTry, AsksFor, GivesNone, OpensAsking, TellsCandidate}
 use Rattle.relation_proving.specs.Candidates.{IsFirstOrderAt, IsFirstOrderClause, IsFirstOrderRule}
 use Rattle.relation_proving.specs.Telling.{MayUse, GoesOn, IsBack, IsExact, goal_tree, TellsGoal, TellsAll, TellsRule}
-use Rattle.relation_proving.specs.Telling.{SaysYes, SaysYesToAll, SaysYesBy}
+use Rattle.relation_proving.specs.Telling.{SaysYes, SaysYesToAll, SaysYesBy, IsProved}
+use Rattle.relation_proving.specs.RuleTerms.{IsRuleOf}
 use Rattle.relation_proving.specs.Searching.{TellsRound}
 use Rattle.relation_proving.proofs.Candidates.{clauses_stay}
 use Rattle.relation_proving.proofs.GoingOn.{goes_itself, goes_through, exact_on, exact_back, ask_on, asks_on, uses_on}
-use Rattle.relation_proving.proofs.GoingOn.{goal_stays, goals_first_order, rule_first_order, back_through, back_goes}
+use Rattle.relation_proving.proofs.GoingOn.{goal_stays, goals_first_order, rule_first_order, rule_on, rules_on, back_through, back_goes}
 
 -- A list without the element at a place.
 without_at : {X : Type 0} (f : X → Tree) (xs : List X) (i : ℕ) (x : X) → i < length xs → x ≡ get_or xs i x →
@@ -41,21 +47,37 @@ without_at f (y ∷ ys) (suc i) x l e =
 module _ {Key Id Name : Type 0} where
   -- What is told of a goal in a context that is back is told of it in the one before.
   module _ (c d e : Context Key Id Name) (b : IsBack c d) (ks : List (Binder Key (ClausesKey Key)))
-      (uses : All (MayUse c) ks) (g : ClauseKey Key) (asked : MayAsk c g) where
+      (env : ParamEnvKey Key) (known_env : KnowsEnv c env) (uses : All (MayUse c) ks) (g : ClauseKey Key)
+      (asked : MayAsk c g) where
     same_goal : goal_tree d g ≡ goal_tree c g
     same_goal = goal_stays c d (back_goes c d b) g asked
 
     first_order_then : IsFirstOrderClause (goal_tree c g) → IsFirstOrderClause (goal_tree d g)
     first_order_then h = subst IsFirstOrderClause (sym same_goal) h
 
-    pub goal_back : (told : Told) → TellsGoal d e ks g told → TellsGoal c e ks g told
-    goal_back Yes t = λ u rs x f.
-        let s = t u rs (exact_back c d b ks u rs uses x) (first_order_then f) in
-        record {
-          did = subst (λ z. Did u [] rs c.store (goal z) (yes e.store)) same_goal
-              (subst (λ z. Did u [] rs z (goal (goal_tree d g)) (yes e.store)) (b.same).store s.did);
-          store = s.store;
-        }
+    rules_then : (rs : List Rule) → AllZip (IsRuleOf c) ks rs → AllZip (IsRuleOf d) ks rs
+    rules_then rs x = rules_on c d (back_goes c d b) ks rs uses x
+
+    proved_back : (rs : List Rule) → IsProved d e ks env rs (one (goal_tree d g)) → IsProved c e ks env rs (one (goal_tree c g))
+    proved_back rs h =
+        subst (λ z. Proves (items_of c.meaning) ((c.meaning).param_env env) (e.store).universe [] rs [] c.store (one z)
+        e.store) same_goal
+        (subst (λ z. Proves (items_of c.meaning) ((c.meaning).param_env env) (e.store).universe [] rs [] z
+        (one (goal_tree d g)) e.store) (b.same).store
+        (subst₂ (λ x y. Proves x y (e.store).universe [] rs [] d.store (one (goal_tree d g)) e.store)
+        (items_stay b.grown) ((b.grown).param_env env known_env) h))
+
+    pub goal_back : (told : Told) → TellsGoal d e ks env g told → TellsGoal c e ks env g told
+    goal_back Yes t = (
+      λ u rs x f.
+          let s = t.0 u rs (exact_back c d b ks u rs uses x) (first_order_then f) in
+          record {
+            did = subst (λ z. Did u [] rs c.store (goal z) (yes e.store)) same_goal
+                (subst (λ z. Did u [] rs z (goal (goal_tree d g)) (yes e.store)) (b.same).store s.did);
+            store = s.store;
+          },
+      λ rs x. proved_back rs (t.1 rs (rules_then rs x)),
+    )
     goal_back No t = (
       back_through c d e b t.0,
       λ u rs x f. subst (λ z. Did u [] rs c.store (goal z) no) same_goal
@@ -64,16 +86,19 @@ module _ {Key Id Name : Type 0} where
     )
     goal_back (Maybe why) t = back_through c d e b t
 
-    pub rule_back : (k : Binder Key (ClausesKey Key)) → MayUse c k → (told : Told) → TellsRule d e ks k g told →
-        TellsRule c e ks k g told
-    rule_back k may Yes t = λ u rs r x f i h.
-        let s = t u rs r (exact_back c d b ks u rs uses x) (rule_first_order c d (back_goes c d b) k r may f) i
-        (first_order_then h) in
-        record {
-          follows = subst (λ z. FollowsBy u [] rs c.store e.store r z) same_goal
-              (subst (λ z. FollowsBy u [] rs z e.store r (goal_tree d g)) (b.same).store s.follows);
-          store = s.store;
-        }
+    pub rule_back : (k : Binder Key (ClausesKey Key)) → MayUse c k → (told : Told) → TellsRule d e ks env k g told →
+        TellsRule c e ks env k g told
+    rule_back k may Yes t = (
+      λ u rs r x f i h.
+          let s = t.0 u rs r (exact_back c d b ks u rs uses x) (rule_first_order c d (back_goes c d b) k r may f) i
+          (first_order_then h) in
+          record {
+            follows = subst (λ z. FollowsBy u [] rs c.store e.store r z) same_goal
+                (subst (λ z. FollowsBy u [] rs z e.store r (goal_tree d g)) (b.same).store s.follows);
+            store = s.store;
+          },
+      λ rs r x f i. proved_back rs (t.1 rs r (rules_then rs x) (rule_on c d (back_goes c d b) k r may f) i),
+    )
     rule_back k may No t = λ u rs r x f i h. subst (λ z. Did u [] rs c.store (rule r z) no) same_goal
         (subst (λ z. Did u [] rs z (rule r (goal_tree d g)) no) (b.same).store
         (t u rs r (exact_back c d b ks u rs uses x) (rule_first_order c d (back_goes c d b) k r may f) i
@@ -81,40 +106,59 @@ module _ {Key Id Name : Type 0} where
     rule_back k may (Maybe why) t = tt
 
   -- Of a goal and a rule that was tried, by what is told of what it asks for.
-  module _ (c d e : Context Key Id Name) (k : Binder Key (ClausesKey Key)) (g : ClauseKey Key)
-      (ks : List (Binder Key (ClausesKey Key))) (on : GoesOn c d) (uses : All (MayUse c) ks) where
+  module _ (c d e : Context Key Id Name) (env : ParamEnvKey Key) (known_env : KnowsEnv c env)
+      (k : Binder Key (ClausesKey Key)) (g : ClauseKey Key) (ks : List (Binder Key (ClausesKey Key))) (on : GoesOn c d)
+      (uses : All (MayUse c) ks) where
     may_try : (u : ℕ) (rs : List Rule) (r : Rule) → IsExact u c ks rs → IsFirstOrderRule c k r →
         IsFirstOrderClause (goal_tree c g) → MayTry c k g u r
     may_try u rs r x f h = record { store = x.store; rule = f; goal = h }
 
-    pub by_asks : (asks : Vec (ClauseKey Key)) → TellsCandidate c k g d (Asks asks) → (told : Told) →
-        TellsAll d e ks asks.items told → TellsRule c e ks k g told
-    by_asks asks t Yes h = λ u rs r x f i o.
-        let a = t.1 u r (may_try u rs r x f o) in
-        let s = h u rs (exact_on c d on ks u rs uses a.store x) a.asks_first_order in
-        record {
-          follows = rule_follows u [] rs c.store a.opened r a.vars (goal_tree c g) (inst a.vars 0 r.gives)
-              (map (goal_tree d) asks.items) a.opens (f.is_rule).shadowed_by_none refl a.asks_are d.store e.store i
-              a.exact s.did;
-          store = s.store;
-        }
-    by_asks asks t No h = λ u rs r x f i o.
+    -- The environment has nothing that a rule gives way to.
+    stands_first : (middle : Store) (r : Rule) (vars : List Tree) → StandsFirst [] middle r vars
+    stands_first middle r vars = λ clause had i j. let below : j.0 < 0 = j.1 in absurd (omega (arith, below))
+
+    by_rule : (asks : List (ClauseKey Key)) → GoesOn d e → (rs : List Rule) (r : Rule) → Contains rs r →
+        OpensAsking c d env g r asks → IsProved d e ks env rs (all (map (goal_tree d) asks)) →
+        IsProved c e ks env rs (one (goal_tree c g))
+    by_rule asks then rs r i o h = took c.store o.opened d.store e.store (c.store).universe r o.vars (goal_tree c g) i
+        ((goes_through c d e on then).later).universe_stands o.opens o.relates o.shrinks (stands_first d.store r o.vars)
+        (subst (λ z. Proves (items_of c.meaning) ((c.meaning).param_env env) (e.store).universe [] rs [] d.store (all z)
+        e.store) o.asks_are
+        (subst₂ (λ x y. Proves x y (e.store).universe [] rs [] d.store (all (map (goal_tree d) asks)) e.store)
+        (items_stay on.grown) ((on.grown).param_env env known_env) h))
+
+    pub by_asks : (asks : Vec (ClauseKey Key)) → TellsCandidate c env k g d (Asks asks) → GoesOn d e → (told : Told) →
+        TellsAll d e ks env asks.items told → TellsRule c e ks env k g told
+    by_asks asks t then Yes h = (
+      λ u rs r x f i o.
+          let a = t.1 u r (may_try u rs r x f o) in
+          let s = h.0 u rs (exact_on c d on ks u rs uses a.store x) a.asks_first_order in
+          record {
+            follows = rule_follows u [] rs c.store a.opened r a.vars (goal_tree c g) (inst a.vars 0 r.gives)
+                (map (goal_tree d) asks.items) a.opens ((f.rule).is_rule).shadowed_by_none refl a.asks_are d.store
+                e.store i a.exact s.did;
+            store = s.store;
+          },
+      λ rs r x f i. by_rule asks.items then rs r i (t.2 r f) (h.1 rs (rules_on c d on ks rs uses x)),
+    )
+    by_asks asks t then No h = λ u rs r x f i o.
         let a = t.1 u r (may_try u rs r x f o) in
         rule_fails u [] rs c.store a.opened r a.vars (goal_tree c g) (inst a.vars 0 r.gives)
-        (map (goal_tree d) asks.items) a.opens (f.is_rule).shadowed_by_none refl a.asks_are d.store a.exact
+        (map (goal_tree d) asks.items) a.opens ((f.rule).is_rule).shadowed_by_none refl a.asks_are d.store a.exact
         (h u rs (exact_on c d on ks u rs uses a.store x) a.asks_first_order)
-    by_asks asks t (Maybe why) h = tt
+    by_asks asks t then (Maybe why) h = tt
 
-    pub by_apart : TellsCandidate c k g d Apart → TellsRule c d ks k g No
+    pub by_apart : TellsCandidate c env k g d Apart → TellsRule c d ks env k g No
     by_apart t = λ u rs r x f i o.
         let a = t u r (may_try u rs r x f o) in
         rule_is_apart u [] rs c.store a.opened r a.vars (goal_tree c g) (inst a.vars 0 r.gives)
-        (map (inst a.vars 0) r.asks) a.opens (f.is_rule).shadowed_by_none refl refl a.none
+        (map (inst a.vars 0) r.asks) a.opens ((f.rule).is_rule).shadowed_by_none refl refl a.none
 
-    pub by_asks_result : {F : Type 0} (asks : Vec (ClauseKey Key)) → TellsCandidate c k g d (Asks asks) →
-        (result : Result Told F) → IfOk result (TellsAll d e ks asks.items) → IfOk result (TellsRule c e ks k g)
-    by_asks_result asks t (Ok told) h = by_asks asks t told h
-    by_asks_result asks t (Err f) h = tt
+    pub by_asks_result : {F : Type 0} (asks : Vec (ClauseKey Key)) → TellsCandidate c env k g d (Asks asks) →
+        GoesOn d e → (result : Result Told F) → IfOk result (TellsAll d e ks env asks.items) →
+        IfOk result (TellsRule c e ks env k g)
+    by_asks_result asks t then (Ok told) h = by_asks asks t then told h
+    by_asks_result asks t then (Err f) h = tt
 
   -- What is left to ask of a list, once some of it was proved.
   module _ (c d : Context Key Id Name) (ks : List (Binder Key (ClausesKey Key))) (asks left : List (ClauseKey Key))
@@ -124,15 +168,25 @@ module _ {Key Id Name : Type 0} where
       pub store : IsFirstOrderAt u d.store
       pub first_order : All (λ g. IsFirstOrderClause (goal_tree d g)) left
 
-  pub record AsksOn (c d : Context Key Id Name) (ks : List (Binder Key (ClausesKey Key)))
+  -- Whatever proves what is left proves all.
+  abbrev pub LeavesToProve : (c d : Context Key Id Name) → List (Binder Key (ClausesKey Key)) → ParamEnvKey Key →
+      List (ClauseKey Key) → List (ClauseKey Key) → Type 0
+  LeavesToProve c d ks env asks left = (rs : List Rule) → AllZip (IsRuleOf c) ks rs → (after : Store) (u : ℕ) →
+      (d.store).universe ≤ u →
+      Proves (items_of c.meaning) ((c.meaning).param_env env) u [] rs [] d.store (all (map (goal_tree d) left)) after →
+      Proves (items_of c.meaning) ((c.meaning).param_env env) u [] rs [] c.store (all (map (goal_tree c) asks)) after
+
+  pub record AsksOn (c d : Context Key Id Name) (ks : List (Binder Key (ClausesKey Key))) (env : ParamEnvKey Key)
       (asks left : List (ClauseKey Key)) : Type 0 where
     pub goes_on : GoesOn c d
     pub may_ask : All (MayAsk d) left
     pub told : (u : ℕ) (rs : List Rule) → IsExact u c ks rs → All (λ g. IsFirstOrderClause (goal_tree c g)) asks →
         Leaves c d ks asks left u rs
+    pub proves : LeavesToProve c d ks env asks left
 
-  module _ (c : Context Key Id Name) (ks : List (Binder Key (ClausesKey Key))) (asks : List (ClauseKey Key)) where
-    pub asking_begins : c.lawful → All (MayAsk c) asks → AsksOn c c ks asks asks
+  module _ (c : Context Key Id Name) (ks : List (Binder Key (ClausesKey Key))) (env : ParamEnvKey Key)
+      (asks : List (ClauseKey Key)) where
+    pub asking_begins : c.lawful → All (MayAsk c) asks → AsksOn c c ks env asks asks
     asking_begins l h = record {
       goes_on = goes_itself c l;
       may_ask = h;
@@ -141,24 +195,28 @@ module _ {Key Id Name : Type 0} where
         store = x.store;
         first_order = f;
       };
+      proves = λ rs x after u l p. p;
     }
 
-    pub asking_ends : (d : Context Key Id Name) → AsksOn c d ks asks [] → TellsAll c d ks asks Yes
-    asking_ends d a = λ u rs x f.
-        let l = a.told u rs x f in
-        record {
-          did = asks_end u [] rs c.store d.store (map (goal_tree c) asks) l.leaves;
-          store = l.store;
-        }
+    pub asking_ends : (d : Context Key Id Name) → AsksOn c d ks env asks [] → TellsAll c d ks env asks Yes
+    asking_ends d a = (
+      λ u rs x f.
+          let l = a.told u rs x f in
+          record {
+            did = asks_end u [] rs c.store d.store (map (goal_tree c) asks) l.leaves;
+            store = l.store;
+          },
+      λ rs x. a.proves rs x d.store (d.store).universe (omega arith) (none_asked d.store),
+    )
 
     -- Nothing is left.
     pub asking_ended : (d : Context Key Id Name) (left : List (ClauseKey Key)) → length left ≤ 0 →
-        AsksOn c d ks asks left → TellsAll c d ks asks Yes
+        AsksOn c d ks env asks left → TellsAll c d ks env asks Yes
     asking_ended d [] l a = asking_ends d a
     asking_ended d (g ∷ gs) l a = let none : suc (length gs) ≤ 0 = l in absurd (omega (arith, none))
 
     module _ (d e : Context Key Id Name) (left : List (ClauseKey Key)) (uses : All (MayUse c) ks)
-        (a : AsksOn c d ks asks left) (on : GoesOn d e) where
+        (known_env : KnowsEnv c env) (a : AsksOn c d ks env asks left) (on : GoesOn d e) where
       exact_then : (u : ℕ) (rs : List Rule) → IsExact u c ks rs → IsFirstOrderAt u d.store → IsExact u d ks rs
       exact_then u rs x s = exact_on c d a.goes_on ks u rs uses s x
 
@@ -169,7 +227,22 @@ module _ {Key Id Name : Type 0} where
       others : (i : ℕ) (P : ClauseKey Key → Type 0) → All P left → All P (remove left i)
       others i P h = All-append P (take i left) (drop (suc i) left) (All-take P i left h) (All-drop P (suc i) left h)
 
-      pub asking_goes_on : (i : ℕ) → TellsRound d e ks left (Proved i) → AsksOn c e ks asks (remove left i)
+      same_goals : (gs : List (ClauseKey Key)) → All (MayAsk d) gs → map (goal_tree e) gs ≡ map (goal_tree d) gs
+      same_goals gs may = clauses_stay d.meaning e.meaning on.grown gs (λ j x m. (may j x m).is_known)
+
+      proves_then : (i : ℕ) → TellsRound d e ks env left (Proved i) → LeavesToProve c e ks env asks (remove left i)
+      proves_then i t = λ rs x after u l p.
+          let may = others i (MayAsk d) a.may_ask in
+          let one_proved = t.1.2.1 rs (rules_on c d a.goes_on ks rs uses x) in
+          a.proves rs x after u (le_trans (on.later).universe_stands l)
+          (one_of d.store e.store after (goal_tree d t.1.0) (map (goal_tree d) left) (map (goal_tree d) (remove left i))
+          (without_at (goal_tree d) left i t.1.0 t.0 t.1.1)
+          (proved_in l (subst₂ (λ y z. Proves y z (e.store).universe [] rs [] d.store (one (goal_tree d t.1.0)) e.store)
+          (items_stay (a.goes_on).grown) (((a.goes_on).grown).param_env env known_env) one_proved))
+          (subst (λ z. Proves (items_of c.meaning) ((c.meaning).param_env env) u [] rs [] e.store (all z) after)
+          (same_goals (remove left i) may) p))
+
+      pub asking_goes_on : (i : ℕ) → TellsRound d e ks env left (Proved i) → AsksOn c e ks env asks (remove left i)
       asking_goes_on i t =
           let may = others i (MayAsk d) a.may_ask in
           record {
@@ -177,11 +250,11 @@ module _ {Key Id Name : Type 0} where
             may_ask = asks_on d e on (remove left i) may;
             told = λ u rs x f.
                 let l = a.told u rs x f in
-                let s = t.1.2 u rs (exact_then u rs x l.store) (is_goal i t.1.0 t.0 t.1.1
+                let s = t.1.2.0 u rs (exact_then u rs x l.store) (is_goal i t.1.0 t.0 t.1.1
                 (λ g. IsFirstOrderClause (goal_tree d g)) l.first_order) in
                 record {
                   leaves = subst (LeavesToAsk u [] rs c.store (map (goal_tree c) asks) e.store)
-                      (sym (clauses_stay d.meaning e.meaning on.grown (remove left i) (λ j x m. (may j x m).is_known)))
+                      (sym (same_goals (remove left i) may))
                       (asks_go_on u [] rs c.store d.store e.store (map (goal_tree c) asks) (map (goal_tree d) left)
                       (map (goal_tree d) (remove left i)) (goal_tree d t.1.0) l.leaves
                       (without_at (goal_tree d) left i t.1.0 t.0 t.1.1) s.did on.later);
@@ -189,9 +262,10 @@ module _ {Key Id Name : Type 0} where
                   first_order = goals_first_order d e on (remove left i) may
                       (others i (λ g. IsFirstOrderClause (goal_tree d g)) l.first_order);
                 };
+            proves = proves_then i t;
           }
 
-      pub asking_fails : TellsRound d e ks left Failed → TellsAll c e ks asks No
+      pub asking_fails : TellsRound d e ks env left Failed → TellsAll c e ks env asks No
       asking_fails t = λ u rs x f.
           let l = a.told u rs x f in
           asks_fail u [] rs c.store d.store (map (goal_tree c) asks) (map (goal_tree d) left)
@@ -202,13 +276,13 @@ module _ {Key Id Name : Type 0} where
 
   -- A goal of a list that was asked in a context which is back.
   module _ (c d e : Context Key Id Name) (b : IsBack c d) (ks : List (Binder Key (ClausesKey Key)))
-      (uses : All (MayUse c) ks) (gs : List (ClauseKey Key)) (asked : All (MayAsk c) gs) (i : ℕ) (l : i < length gs)
+      (env : ParamEnvKey Key) (known_env : KnowsEnv c env) (uses : All (MayUse c) ks) (gs : List (ClauseKey Key)) (asked : All (MayAsk c) gs) (i : ℕ) (l : i < length gs)
       (g : ClauseKey Key) (is : g ≡ get_or gs i g) where
     may_ask : MayAsk c g
     may_ask = subst (MayAsk c) (sym is) (All-get_or (MayAsk c) gs i g l asked)
 
-    pub round_proved : TellsGoal d e ks g Yes → TellsRound c e ks gs (Proved i)
-    round_proved t = (l, (g, is, goal_back c d e b ks uses g may_ask Yes t))
+    pub round_proved : TellsGoal d e ks env g Yes → TellsRound c e ks env gs (Proved i)
+    round_proved t = (l, (g, is, goal_back c d e b ks env known_env uses g may_ask Yes t))
 
-    pub round_failed : TellsGoal d e ks g No → TellsRound c e ks gs Failed
-    round_failed t = (i, l, (g, is, goal_back c d e b ks uses g may_ask No t))
+    pub round_failed : TellsGoal d e ks env g No → TellsRound c e ks env gs Failed
+    round_failed t = (i, l, (g, is, goal_back c d e b ks env known_env uses g may_ask No t))

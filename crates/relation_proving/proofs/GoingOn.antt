@@ -20,7 +20,7 @@ use Rattle.relation_semantics.proofs.Standing.{later_term}
 use Rattle.kept_records.specs.Records.{SameRecord}
 use Rattle.relation_solver.specs.Rules.{Rule}
 use Rattle.kept_records.proofs.Kept.{same_through}
-use Rattle.relation_proving.specs.RuleTerms.{IsRule, rule_tree}
+use Rattle.relation_proving.specs.RuleTerms.{IsRule, IsRuleOf, rule_tree}
 use Rattle.relation_proving.specs.Candidates.{MayAsk, IsFirstOrderAt, IsFirstOrderClause, IsFirstOrderRule}
 use Rattle.relation_proving.specs.Telling.{MayUse, MayProve, GoesOn, IsBack, IsExact, goal_tree}
 use Rattle.relation_proving.proofs.Candidates.{ask_later}
@@ -112,15 +112,25 @@ module _ {Key Id Name : Type 0} where
         All (λ k. IsFirstOrderClause (goal_tree c k)) ks → All (λ k. IsFirstOrderClause (goal_tree d k)) ks
     goals_first_order ks h f = λ i x l. subst IsFirstOrderClause (sym (goal_stays _ (h i x l))) (f i x l)
 
-    pub rule_first_order : (k : Binder Key (ClausesKey Key)) (r : Rule) → MayUse c k → IsFirstOrderRule c k r →
-        IsFirstOrderRule d k r
-    rule_first_order k r h f =
+    pub rule_on : (k : Binder Key (ClausesKey Key)) (r : Rule) → MayUse c k → IsRuleOf c k r → IsRuleOf d k r
+    rule_on k r h f =
         let same = rule_stays c.meaning d.meaning g.grown k h.is_known in
         record {
           closed = subst (Leaves IsValueLeaf) (sym same) f.closed;
           is_rule = subst (λ t. IsRule t r) (sym same) f.is_rule;
-          clauses = f.clauses;
         }
+
+    pub rule_first_order : (k : Binder Key (ClausesKey Key)) (r : Rule) → MayUse c k → IsFirstOrderRule c k r →
+        IsFirstOrderRule d k r
+    rule_first_order k r h f = record { rule = rule_on k r h f.rule; clauses = f.clauses }
+
+    pub rules_on : (ks : List (Binder Key (ClausesKey Key))) (rs : List Rule) → All (MayUse c) ks →
+        AllZip (IsRuleOf c) ks rs → AllZip (IsRuleOf d) ks rs
+    rules_on [] [] h f = tt
+    rules_on (k ∷ ks) (r ∷ rs) h f =
+        (rule_on k r (All-head (MayUse c) k ks h) f.0, rules_on ks rs (All-tail (MayUse c) k ks h) f.1)
+    rules_on [] (r ∷ rs) h f = absurd f
+    rules_on (k ∷ ks) [] h f = absurd f
 
     rules_first_order : (ks : List (Binder Key (ClausesKey Key))) (rs : List Rule) → All (MayUse c) ks →
         AllZip (IsFirstOrderRule c) ks rs → AllZip (IsFirstOrderRule d) ks rs

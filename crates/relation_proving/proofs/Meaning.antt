@@ -5,46 +5,59 @@ use Rattle.std.proofs.lemmas.List.Elements.{All-nil}
 use Rattle.relation_terms.specs.declared.terms.binder.Binder.{Binder}
 use Rattle.relation_terms.specs.declared.terms.keys.ClauseKey.{ClauseKey}
 use Rattle.relation_terms.specs.declared.terms.keys.ClausesKey.{ClausesKey}
+use Rattle.relation_terms.specs.declared.terms.keys.ParamEnvKey.{ParamEnvKey}
 use Rattle.relation_terms.specs.Trees.{Leaves}
 use Rattle.relation_semantics.specs.Contexts.{Context}
+use Rattle.relation_semantics.specs.Goals.{Holds}
+use Rattle.relation_semantics.specs.Lawful.{items_of}
 use Rattle.relation_semantics.specs.Relation.{IsValueLeaf}
 use Rattle.relation_semantics.proofs.Standing.{term_context}
-use Rattle.relation_solver.specs.Solving.{YesIsSound, YesIsPrincipal, NoMeansNone}
-use Rattle.relation_proving.specs.Answers.{YesMakesFollow, YesLosesNone, NoFollowsNever, LeavesNothing}
+use Rattle.relation_solver.specs.Solving.{YesIsSound, YesIsPrincipal, NoMeansNone, ProofsDerive}
+use Rattle.relation_proving.specs.Answers.{YesDerives, YesMakesFollow, YesLosesNone, NoFollowsNever}
+use Rattle.relation_proving.specs.Answers.{LeavesNothing}
 use Rattle.relation_proving.specs.Candidates.{MayAsk}
 use Rattle.relation_proving.specs.Telling.{goal_tree, TellsGoal}
 use Rattle.relation_proving.specs.declared.told.Told.{Told}
 use Rattle.relation_proving.specs.declared.told.Told.TheVariants.{Yes, No, Maybe}
 
 module _ {Key Id Name F : Type 0} (c d : Context Key Id Name) (ks : List (Binder Key (ClausesKey Key)))
-    (g : ClauseKey Key) where
-  pub makes_follow : YesIsSound → (result : Result Told F) → IfOk result (TellsGoal c d ks g) →
+    (e : ParamEnvKey Key) (g : ClauseKey Key) where
+  pub derives : ProofsDerive → (result : Result Told F) → IfOk result (TellsGoal c d ks e g) →
+      YesDerives c d ks g e result
+  derives law (Ok Yes) t = λ rs x w s h. law (items_of c.meaning) ((c.meaning).param_env e) (d.store).universe [] rs []
+      c.store d.store (goal_tree c g) (All-nil (Leaves IsValueLeaf)) (t.1 rs x) w s h
+      (All-nil (Holds (items_of c.meaning) w s))
+  derives law (Ok No) t = tt
+  derives law (Ok (Maybe why)) t = tt
+  derives law (Err f) t = tt
+
+  pub makes_follow : YesIsSound → (result : Result Told F) → IfOk result (TellsGoal c d ks e g) →
       YesMakesFollow c d ks g result
   makes_follow law (Ok Yes) t = λ rs x f s h. law (c.store).universe [] rs c.store d.store (goal_tree c g)
-      (All-nil (Leaves IsValueLeaf)) (t (c.store).universe rs x f).did s h
+      (All-nil (Leaves IsValueLeaf)) (t.0 (c.store).universe rs x f).did s h
   makes_follow law (Ok No) t = tt
   makes_follow law (Ok (Maybe why)) t = tt
-  makes_follow law (Err e) t = tt
+  makes_follow law (Err f) t = tt
 
-  pub loses_none : YesIsPrincipal → MayAsk c g → (result : Result Told F) → IfOk result (TellsGoal c d ks g) →
+  pub loses_none : YesIsPrincipal → MayAsk c g → (result : Result Told F) → IfOk result (TellsGoal c d ks e g) →
       YesLosesNone c d ks g result
   loses_none law a (Ok Yes) t = λ rs x f s h k. law (c.store).universe [] rs c.store d.store (goal_tree c g)
       (All-nil (Leaves IsValueLeaf)) (term_context c.store (goal_tree c g) a.is_in)
-      (t (c.store).universe rs x f).did s h k
+      (t.0 (c.store).universe rs x f).did s h k
   loses_none law a (Ok No) t = tt
   loses_none law a (Ok (Maybe why)) t = tt
-  loses_none law a (Err e) t = tt
+  loses_none law a (Err f) t = tt
 
-  pub follows_never : NoMeansNone → MayAsk c g → (result : Result Told F) → IfOk result (TellsGoal c d ks g) →
+  pub follows_never : NoMeansNone → MayAsk c g → (result : Result Told F) → IfOk result (TellsGoal c d ks e g) →
       NoFollowsNever c d ks g result
   follows_never law a (Ok Yes) t = tt
   follows_never law a (Ok No) t = λ rs x f s h k. law (c.store).universe [] rs c.store (goal_tree c g)
       (All-nil (Leaves IsValueLeaf)) (term_context c.store (goal_tree c g) a.is_in) (t.1 (c.store).universe rs x f) s h k
   follows_never law a (Ok (Maybe why)) t = tt
-  follows_never law a (Err e) t = tt
+  follows_never law a (Err f) t = tt
 
-  pub leaves_nothing : (result : Result Told F) → IfOk result (TellsGoal c d ks g) → LeavesNothing c d ks g result
+  pub leaves_nothing : (result : Result Told F) → IfOk result (TellsGoal c d ks e g) → LeavesNothing c d ks g result
   leaves_nothing (Ok Yes) t = tt
   leaves_nothing (Ok No) t = (t.0).same
   leaves_nothing (Ok (Maybe why)) t = t.same
-  leaves_nothing (Err e) t = tt
+  leaves_nothing (Err f) t = tt

@@ -2,19 +2,22 @@
 use Rattle.std.proofs.Common.{◌≡◌, ℕ, suc, ◌+◌, ◌<◌, ◌≤◌, List, [], ◌∷◌, ◌++◌, refl, sym, ◌∙◌, ap, subst, map, All, length}
 use Rattle.std.proofs.Common.{get_or, take, arith}
 use Rattle.std.specs.Prelude.{Contains}
+use Rattle.std.specs.List.{AllZip}
 use Rattle.std.proofs.lemmas.List.{take_all, take_more}
 use Rattle.std.proofs.lemmas.List.Elements.{All-get_or, Contains-get_or}
 use Rattle.relation_terms.specs.declared.terms.binder.Binder.{Binder}
 use Rattle.relation_terms.specs.declared.terms.keys.ClauseKey.{ClauseKey}
 use Rattle.relation_terms.specs.declared.terms.keys.ClausesKey.{ClausesKey}
+use Rattle.relation_terms.specs.declared.terms.keys.ParamEnvKey.{ParamEnvKey}
 use Rattle.relation_terms.specs.Trees.{Tree, nil}
 use Rattle.relation_terms.specs.Meaning.{Extends}
 use Rattle.relation_terms.proofs.Stays.{extends_on, stays_same}
-use Rattle.relation_semantics.specs.Contexts.{Context}
+use Rattle.relation_semantics.specs.Contexts.{Context, KnowsEnv}
+use Rattle.relation_semantics.specs.Lawful.{items_of}
 use Rattle.relation_semantics.specs.Steps.{IsLater}
 use Rattle.kept_records.specs.Records.{SameRecord, IsRecordOf, StandsOn}
-use Rattle.relation_solver.specs.Rules.{Rule, given}
-use Rattle.relation_solver.specs.Traces.{Did, goal, rule, yes, no, FollowsBy}
+use Rattle.relation_solver.specs.Rules.{Rule, given, one}
+use Rattle.relation_solver.specs.Traces.{Did, goal, rule, yes, no, FollowsBy, Proves}
 use Rattle.relation_solver.proofs.Going.{AllFail, AllOthersFail, one_more_fails, first_found, one_other_fails, all_fail}
 use Rattle.relation_solver.proofs.Going.{takes_alone}
 use Rattle.kept_records.proofs.Kept.{may_put_back, put_back_is, put_back_means}
@@ -27,7 +30,8 @@ use Rattle.relation_proving.specs.declared.searching.Search.{Search}
 use Rattle.relation_proving.specs.declared.searching.Search.TheVariants.{Nothing, Found, Open}
 use Rattle.relation_proving.specs.Candidates.{MayAsk, IsFirstOrderAt, IsFirstOrderClause, IsFirstOrderRule}
 use Rattle.relation_proving.specs.Telling.{MayUse, GoesOn, IsBack, IsExact, goal_tree, TellsGoal, TellsRule}
-use Rattle.relation_proving.specs.Telling.{SaysYes, SaysYesBy}
+use Rattle.relation_proving.specs.Telling.{SaysYes, SaysYesBy, IsProved}
+use Rattle.relation_proving.specs.RuleTerms.{IsRuleOf}
 use Rattle.relation_proving.specs.Searching.{search_after, told_by, settled, HasKept, KeepsTold, MaySettle, TellsTried}
 use Rattle.relation_proving.proofs.GoingOn.{zip_length, zip_at, goes_through, back_through, back_goes}
 use Rattle.relation_proving.proofs.Answering.{rule_back}
@@ -47,7 +51,8 @@ module _ {S R Key Id Name : Type 0} (state : S → Context Key Id Name) (with_re
     known = extends_on h.known e;
   }
 
-  module _ (c : Context Key Id Name) (ks : List (Binder Key (ClausesKey Key))) (g : ClauseKey Key) where
+  module _ (c : Context Key Id Name) (ks : List (Binder Key (ClausesKey Key))) (env : ParamEnvKey Key)
+      (g : ClauseKey Key) where
     -- By the first n rules it follows by one alone.
     pub record Only (there : S) (n u : ℕ) (rs : List Rule) : Type 0 where
       pub by : Rule
@@ -60,7 +65,8 @@ module _ {S R Key Id Name : Type 0} (state : S → Context Key Id Name) (with_re
     TellsSearch now n Nothing = (u : ℕ) (rs : List Rule) → IsExact u c ks rs → IsFirstOrderClause (goal_tree c g) →
         AllFail u [] rs c.store (goal_tree c g) (take n rs)
     TellsSearch now n (Found r) = (h : HasKept state with_record c now r) × ((u : ℕ) (rs : List Rule) →
-        IsExact u c ks rs → IsFirstOrderClause (goal_tree c g) → Only h.where_kept n u rs)
+        IsExact u c ks rs → IsFirstOrderClause (goal_tree c g) → Only h.where_kept n u rs) ×
+        ((rs : List Rule) → AllZip (IsRuleOf c) ks rs → IsProved c (state h.where_kept) ks env rs (one (goal_tree c g)))
     TellsSearch now n (Open why) = Unit {0}
 
     pub record Searches (now : S) (n : ℕ) (search : Search R) : Type 0 where
@@ -75,7 +81,7 @@ module _ {S R Key Id Name : Type 0} (state : S → Context Key Id Name) (with_re
 
     -- One rule more.
     module _ (now then : S) (n : ℕ) (k : Binder Key (ClausesKey Key)) (l : n < length ks) (is : k ≡ get_or ks n k)
-        (uses : All (MayUse c) ks) (asked : MayAsk c g) (b : IsBack c (state now))
+        (known_env : KnowsEnv c env) (uses : All (MayUse c) ks) (asked : MayAsk c g) (b : IsBack c (state now))
         (b' : IsBack (state now) (state then)) where
       may_use : MayUse c k
       may_use = subst (MayUse c) (sym is) (All-get_or (MayUse c) ks n k l uses)
@@ -94,16 +100,28 @@ module _ {S R Key Id Name : Type 0} (state : S → Context Key Id Name) (with_re
         one_more : take (n + 1) rs ≡ take n rs ++ rule_at rs n ∷ []
         one_more = take_more rs n (given nil) there
 
-      fails : (d : Context Key Id Name) → TellsRule (state now) d ks k g No → (u : ℕ) (rs : List Rule) →
+      is_rule_of : (rs : List Rule) → AllZip (IsRuleOf c) ks rs → IsRuleOf c k (rule_at rs n)
+      is_rule_of rs x = subst (λ z. IsRuleOf c z (rule_at rs n)) (sym is) (zip_at (IsRuleOf c) ks rs n k (given nil) x l)
+
+      in_rules_of : (rs : List Rule) → AllZip (IsRuleOf c) ks rs → Contains rs (rule_at rs n)
+      in_rules_of rs x =
+          let same = zip_length (IsRuleOf c) ks rs x in Contains-get_or rs n (given nil) (omega (arith, l, same))
+
+      fails : (d : Context Key Id Name) → TellsRule (state now) d ks env k g No → (u : ℕ) (rs : List Rule) →
           IsExact u c ks rs → IsFirstOrderClause (goal_tree c g) →
           Did u [] rs c.store (rule (rule_at rs n) (goal_tree c g)) no
-      fails d t u rs x f = rule_back c (state now) d b ks uses g asked k may_use No t u rs (rule_at rs n) x
+      fails d t u rs x f = rule_back c (state now) d b ks env known_env uses g asked k may_use No t u rs (rule_at rs n) x
           (is_rule u rs x) (in_rules u rs x) f
 
-      follows : (d : Context Key Id Name) → TellsRule (state now) d ks k g Yes → (u : ℕ) (rs : List Rule) →
-          IsExact u c ks rs → IsFirstOrderClause (goal_tree c g) → SaysYesBy c d ks g u rs (rule_at rs n)
-      follows d t u rs x f = rule_back c (state now) d b ks uses g asked k may_use Yes t u rs (rule_at rs n) x
-          (is_rule u rs x) (in_rules u rs x) f
+      follows : (d : Context Key Id Name) → TellsRule (state now) d ks env k g Yes → (u : ℕ) (rs : List Rule) →
+          IsExact u c ks rs → IsFirstOrderClause (goal_tree c g) → SaysYesBy c d ks env g u rs (rule_at rs n)
+      follows d t u rs x f = (rule_back c (state now) d b ks env known_env uses g asked k may_use Yes t).0 u rs
+          (rule_at rs n) x (is_rule u rs x) (in_rules u rs x) f
+
+      proved : (d : Context Key Id Name) → TellsRule (state now) d ks env k g Yes → (rs : List Rule) →
+          AllZip (IsRuleOf c) ks rs → IsProved c d ks env rs (one (goal_tree c g))
+      proved d t rs x = (rule_back c (state now) d b ks env known_env uses g asked k may_use Yes t).1 rs (rule_at rs n) x
+          (is_rule_of rs x) (in_rules_of rs x)
 
       abbrev kept_before : (r : R) → HasKept state with_record (state now) then r → HasKept state with_record c then r
       kept_before r h = record {
@@ -114,7 +132,7 @@ module _ {S R Key Id Name : Type 0} (state : S → Context Key Id Name) (with_re
       }
 
       after : (search : Search R) (tried : Tried R) → TellsSearch now n search →
-          TellsTried state with_record (state now) then ks k g tried →
+          TellsTried state with_record (state now) then ks env k g tried →
           TellsSearch then (n + 1) (search_after search tried)
       after Nothing (Follows r) s t = (
         kept_before r t.0,
@@ -127,6 +145,7 @@ module _ {S R Key Id Name : Type 0} (state : S → Context Key Id Name) (with_re
               others = subst (AllOthersFail u [] rs c.store (rule_at rs n) (goal_tree c g)) (sym (one_more u rs x))
                   (first_found u [] rs c.store (goal_tree c g) (take n rs) (rule_at rs n) (s u rs x f));
             },
+        proved (state (t.0).where_kept) t.1,
       )
       after Nothing Fails s t = λ u rs x f.
           subst (AllFail u [] rs c.store (goal_tree c g)) (sym (one_more u rs x))
@@ -146,6 +165,7 @@ module _ {S R Key Id Name : Type 0} (state : S → Context Key Id Name) (with_re
                   (one_other_fails u [] rs c.store (goal_tree c g) (take n rs) o.by (rule_at rs n) o.others
                   (fails (state then) t u rs x f));
             },
+        s.2,
       )
       after (Found r) (Unclear why) s t = tt
       after (Open why) (Follows q) s t = tt
@@ -153,7 +173,7 @@ module _ {S R Key Id Name : Type 0} (state : S → Context Key Id Name) (with_re
       after (Open why) (Unclear again) s t = tt
 
       pub search_goes_on : (search : Search R) (tried : Tried R) → TellsSearch now n search →
-          TellsTried state with_record (state now) then ks k g tried →
+          TellsTried state with_record (state now) then ks env k g tried →
           Searches then (n + 1) (search_after search tried)
       search_goes_on search tried s t = record {
         back = back_through c (state now) (state then) b b';
@@ -188,21 +208,25 @@ module _ {S R Key Id Name : Type 0} (state : S → Context Key Id Name) (with_re
       settled_goes (Open why) b s = back_goes c (state now) b
 
       settled_tells : (search : Search R) → IsBack c (state now) → TellsSearch now n search →
-          TellsGoal c (state (settled with_record now search)) ks g (told_by search)
+          TellsGoal c (state (settled with_record now search)) ks env g (told_by search)
       settled_tells Nothing b s = (
         b,
         λ u rs x f. all_fail u [] rs c.store (goal_tree c g)
             (subst (AllFail u [] rs c.store (goal_tree c g)) (whole u rs x) (s u rs x f)),
       )
-      settled_tells (Found r) b s = λ u rs x f.
-          let o = s.1 u rs x f in
-          let same : (state (with_record now r)).store ≡ (state (s.0).where_kept).store = (put_back_same r s.0).store in
-          record {
-            did = subst (λ z. Did u [] rs c.store (goal (goal_tree c g)) (yes z)) (sym same)
-                (takes_alone u [] rs c.store (state (s.0).where_kept).store o.by (goal_tree c g) o.follows
-                (subst (AllOthersFail u [] rs c.store o.by (goal_tree c g)) (whole u rs x) o.others));
-            store = subst (IsFirstOrderAt u) (sym same) o.store;
-          }
+      settled_tells (Found r) b s =
+          let same : (state (with_record now r)).store ≡ (state (s.0).where_kept).store = (put_back_same r s.0).store in (
+            λ u rs x f.
+                let o = s.1 u rs x f in
+                record {
+                  did = subst (λ z. Did u [] rs c.store (goal (goal_tree c g)) (yes z)) (sym same)
+                      (takes_alone u [] rs c.store (state (s.0).where_kept).store o.by (goal_tree c g) o.follows
+                      (subst (AllOthersFail u [] rs c.store o.by (goal_tree c g)) (whole u rs x) o.others));
+                  store = subst (IsFirstOrderAt u) (sym same) o.store;
+                },
+            λ rs x. subst (λ z. Proves (items_of c.meaning) ((c.meaning).param_env env) z.universe [] rs [] c.store
+                (one (goal_tree c g)) z) (sym same) (s.2 rs x),
+          )
       settled_tells (Open why) b s = b
 
       -- So it is of what is answered.
@@ -210,16 +234,16 @@ module _ {S R Key Id Name : Type 0} (state : S → Context Key Id Name) (with_re
         pub settles_goes : GoesOn c (state then)
         settles_goes = subst (λ z. GoesOn c (state z)) (sym is) (settled_goes search s.back s.tells)
 
-        pub settles_tells : (told : Told) → told ≡ told_by search → TellsGoal c (state then) ks g told
-        settles_tells told e = subst (TellsGoal c (state then) ks g) (sym e)
-            (subst (λ z. TellsGoal c (state z) ks g (told_by search)) (sym is) (settled_tells search s.back s.tells))
+        pub settles_tells : (told : Told) → told ≡ told_by search → TellsGoal c (state then) ks env g told
+        settles_tells told e = subst (TellsGoal c (state then) ks env g) (sym e)
+            (subst (λ z. TellsGoal c (state z) ks env g (told_by search)) (sym is) (settled_tells search s.back s.tells))
 
   -- A rule was tried, what is recorded then kept if the goal follows by it, and the record put back.
-  module _ (c : Context Key Id Name) (ks : List (Binder Key (ClausesKey Key))) (k : Binder Key (ClausesKey Key))
-      (g : ClauseKey Key) (now then : S) (on : GoesOn c (state now))
+  module _ (c : Context Key Id Name) (ks : List (Binder Key (ClausesKey Key))) (env : ParamEnvKey Key)
+      (k : Binder Key (ClausesKey Key)) (g : ClauseKey Key) (now then : S) (on : GoesOn c (state now))
       (grown : Extends (state now).meaning (state then).meaning) where
-    pub tried_tells : (told : Told) (tried : Tried R) → TellsRule c (state now) ks k g told →
-        KeepsTold state with_record now told tried → TellsTried state with_record c then ks k g tried
+    pub tried_tells : (told : Told) (tried : Tried R) → TellsRule c (state now) ks env k g told →
+        KeepsTold state with_record now told tried → TellsTried state with_record c then ks env k g tried
     tried_tells Yes (Follows r) t h =
         (record { where_kept = now; is = h; goes_on = on; known = grown }, t)
     tried_tells No Fails t h = t

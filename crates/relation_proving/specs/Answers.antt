@@ -1,19 +1,28 @@
--- What the answers of a solver mean, of first-order rules, goals and records.
+-- What the answers of a solver mean: a yes of any rules without variables, all answers of first-order rules, goals and
+-- records.
 --
+--   YesDerives c d ks e g result     of any rules without variables: what satisfies the record after a yes makes the goal
+--                                    derived
 --   YesMakesFollow c d ks g result   after a yes each solution is one before, and makes the goal follow
 --   YesLosesNone c d ks g result     each solution before under which it follows goes on
 --   NoFollowsNever c d ks g result   after a no it follows under none, at no depth
 --   LeavesNothing c d ks g result    where it isn't yes, what is recorded is what was
 use Rattle.std.specs.Prelude.{List, [], Result, Ok, Err}
+use Rattle.std.specs.List.{AllZip}
 use Rattle.relation_terms.specs.declared.terms.binder.Binder.{Binder}
 use Rattle.relation_terms.specs.declared.terms.keys.ClauseKey.{ClauseKey}
 use Rattle.relation_terms.specs.declared.terms.keys.ClausesKey.{ClausesKey}
+use Rattle.relation_terms.specs.declared.terms.keys.ParamEnvKey.{ParamEnvKey}
 use Rattle.relation_terms.specs.Trees.{Assign, apply}
 use Rattle.relation_semantics.specs.Contexts.{Context}
 use Rattle.relation_semantics.specs.FirstOrder.{IsErasedSolution}
+use Rattle.relation_semantics.specs.Lawful.{items_of}
+use Rattle.relation_semantics.specs.Relation.{Interpretation}
 use Rattle.relation_semantics.specs.Steps.{HasErasedExtension}
+use Rattle.relation_semantics.specs.Stores.{Satisfies}
 use Rattle.kept_records.specs.Records.{SameRecord}
-use Rattle.relation_solver.specs.Rules.{Rule, one, Follows}
+use Rattle.relation_solver.specs.Rules.{Rule, one, Follows, Derives}
+use Rattle.relation_proving.specs.RuleTerms.{IsRuleOf}
 use Rattle.relation_proving.specs.Candidates.{IsFirstOrderClause}
 use Rattle.relation_proving.specs.Telling.{IsExact, goal_tree}
 use Rattle.relation_proving.specs.declared.told.Told.{Told}
@@ -21,6 +30,14 @@ use Rattle.relation_proving.specs.declared.told.Told.TheVariants.{Yes, No, Maybe
 
 module _ {Key Id Name F : Type 0} (c d : Context Key Id Name) (ks : List (Binder Key (ClausesKey Key)))
     (g : ClauseKey Key) where
+  -- Of any rules without variables: after a yes what satisfies the record satisfied it before, and makes the goal
+  -- derived in the environment, by values that the universe can name which is current then.
+  abbrev pub YesDerives : ParamEnvKey Key → Result Told F → Type 0
+  YesDerives e (Ok Yes) = (rs : List Rule) → AllZip (IsRuleOf c) ks rs → (w : Interpretation) (s : Assign) →
+      Satisfies w d.store s → Satisfies w c.store s ×
+      Derives (items_of c.meaning) w ((c.meaning).param_env e) (d.store).universe [] rs (one (apply s (goal_tree c g)))
+  YesDerives e result = Unit {0}
+
   -- After a yes each solution was one before, and makes the goal follow.
   abbrev pub YesMakesFollow : Result Told F → Type 0
   YesMakesFollow (Ok Yes) = (rs : List Rule) → IsExact (c.store).universe c ks rs → IsFirstOrderClause (goal_tree c g) →

@@ -7,9 +7,11 @@
 --   AsksFor c k g u d r asks   the goal is what the rule gives, if what the rule asks for follows
 --   GivesNone c k g u r        the goal is nothing that the rule gives
 --   TellsOpened ..             what is told of a goal and of what an opened rule gives
---   TellsCandidate c k g d x   what is told of a rule that was tried
+--   OpensAsking c d e g r asks   a rule was opened, and what it gives is related with the goal
+--   TellsCandidate c e k g d x   what is told of a rule that was tried
 use Rattle.std.specs.Prelude.{◌≡◌, ℕ, List, [], ◌∷◌, All, IsTrue, None, map}
 use Rattle.std.specs.Global.{Vec}
+use Rattle.term_enums.specs.declared.Variance.TheVariants.{Invariant}
 use Rattle.relation_terms.specs.declared.terms.binder.Binder.{Binder}
 use Rattle.relation_terms.specs.declared.terms.keys.ClauseKey.{ClauseKey}
 use Rattle.relation_terms.specs.declared.terms.keys.ClausesKey.{ClausesKey}
@@ -24,12 +26,14 @@ use Rattle.relation_semantics.specs.Bound.{IsWellBound}
 use Rattle.relation_semantics.specs.Contexts.{Context}
 use Rattle.relation_semantics.specs.FirstOrder.{IsFirstOrder, IsFirstOrderStore}
 use Rattle.relation_semantics.specs.Outcomes.{Exact, NoUnifier}
-use Rattle.relation_semantics.specs.Stores.{Store, IsTermIn}
+use Rattle.relation_semantics.specs.Goals.{Relates}
+use Rattle.relation_semantics.specs.Lawful.{items_of}
+use Rattle.relation_semantics.specs.Stores.{Store, IsTermIn, OnlyShrinks}
 use Rattle.relation_solver.specs.Rules.{Rule}
 use Rattle.relation_solver.specs.Traces.{Opens}
 use Rattle.relation_proving.specs.Bodies.{IsBodyOf}
 use Rattle.relation_proving.specs.Fitting.{AreMadeOne, AreToldApart}
-use Rattle.relation_proving.specs.RuleTerms.{IsRule, rule_tree, IsClosedRule}
+use Rattle.relation_proving.specs.RuleTerms.{IsRuleOf}
 use Rattle.relation_proving.specs.declared.fitting.Fitting.{Fitting}
 use Rattle.relation_proving.specs.declared.fitting.Fitting.TheVariants.{Fits, Apart as ToldApart, Left}
 use Rattle.relation_proving.specs.declared.candidate.Candidate.{Candidate}
@@ -87,8 +91,7 @@ module _ {Key Id Name : Type 0} where
   -- A rule as a tree, without variables. With variables for what it binds each of its clauses is first-order, under a
   -- binder that binds nothing.
   pub record IsFirstOrderRule (c : Context Key Id Name) (k : Binder Key (ClausesKey Key)) (r : Rule) : Type 0 where
-    pub closed : IsClosedRule c k
-    pub is_rule : IsRule (rule_tree c.meaning k) r
+    pub rule : IsRuleOf c k r
     pub clauses : (vars : List Tree) → AreVariablesFor r.binds vars →
         All IsFirstOrderClause (map (inst vars 0) (r.gives ∷ r.asks))
 
@@ -116,9 +119,23 @@ module _ {Key Id Name : Type 0} where
       pub opens : Opens u c.store opened r vars
       pub none : NoUnifier opened ((c.meaning).clause g) (inst vars 0 r.gives)
 
+  -- A rule was opened, and what satisfies the record then relates the goal and what it gives; these are what it asks
+  -- for.
+  pub record OpensAsking (c d : Context Key Id Name) (e : ParamEnvKey Key) (g : ClauseKey Key) (r : Rule)
+      (asks : List (ClauseKey Key)) : Type 0 where
+    pub vars : List Tree
+    pub opened : Store
+    pub opens : Opens (c.store).universe c.store opened r vars
+    pub relates : Relates (items_of c.meaning) d.store [] ((c.meaning).param_env e) Invariant ((c.meaning).clause g)
+        (inst vars 0 r.gives)
+    pub shrinks : OnlyShrinks opened d.store
+    pub asks_are : map (d.meaning).clause asks ≡ map (inst vars 0) r.asks
+
   -- What became of a rule that was tried for a goal.
-  module _ (c : Context Key Id Name) (k : Binder Key (ClausesKey Key)) (g : ClauseKey Key) where
+  module _ (c : Context Key Id Name) (e : ParamEnvKey Key) (k : Binder Key (ClausesKey Key)) (g : ClauseKey Key) where
     abbrev pub TellsCandidate : Context Key Id Name → Candidate Key → Type 0
-    TellsCandidate d (Asks v) = All (MayAsk d) v.items × ((u : ℕ) (r : Rule) → MayTry c k g u r → AsksFor c k g u d r v.items)
+    TellsCandidate d (Asks v) = All (MayAsk d) v.items ×
+        ((u : ℕ) (r : Rule) → MayTry c k g u r → AsksFor c k g u d r v.items) ×
+        ((r : Rule) → IsRuleOf c k r → OpensAsking c d e g r v.items)
     TellsCandidate d Apart = (u : ℕ) (r : Rule) → MayTry c k g u r → GivesNone c k g u r
     TellsCandidate d Unclear = Unit {0}

@@ -38,6 +38,11 @@ module _ {Key Id Name : Type 0} where
     abbrev pub IsClosedRule : Type 0
     IsClosedRule = Leaves IsValueLeaf (rule_tree c.meaning r)
 
+  -- It is this rule as a tree, without variables.
+  pub record IsRuleOf (c : Context Key Id Name) (k : Binder Key (ClausesKey Key)) (r : Rule) : Type 0 where
+    pub closed : IsClosedRule c k
+    pub is_rule : IsRule (rule_tree c.meaning k) r
+
   -- The clauses of a rule, by new variables of the current universe for what it binds. They are known, are the
   -- context's, and their binders bind by their lists.
   pub record OpensRule (c d : Context Key Id Name) (r : Binder Key (ClausesKey Key)) (cs : List (ClauseKey Key)) :

@@ -2,7 +2,7 @@
 --
 --   worse_of a b                        of two reasons why it isn't told which counts
 --   HasKept state with_record c now r   what was kept where a goal followed, which may be put back
---   TellsRound c d ks gs round          what is told of the goals of a list, asked one after another
+--   TellsRound c d ks e gs round          what is told of the goals of a list, asked one after another
 --   KeepsTold state with_record now     what was kept of an answer
 --   TellsTried ..                       what is told of a rule that was tried, once the record is put back
 --   search_after search tried           what is known of the rules with one more
@@ -12,6 +12,7 @@ use Rattle.std.specs.Prelude.{◌≡◌, ℕ, ◌<◌, List, length, get_or}
 use Rattle.relation_terms.specs.declared.terms.binder.Binder.{Binder}
 use Rattle.relation_terms.specs.declared.terms.keys.ClauseKey.{ClauseKey}
 use Rattle.relation_terms.specs.declared.terms.keys.ClausesKey.{ClausesKey}
+use Rattle.relation_terms.specs.declared.terms.keys.ParamEnvKey.{ParamEnvKey}
 use Rattle.relation_terms.specs.Meaning.{Extends}
 use Rattle.relation_semantics.specs.Contexts.{Context}
 use Rattle.kept_records.specs.Records.{IsRecordOf}
@@ -58,10 +59,10 @@ settled with_record now (Open why) = now
 -- What is told of the goals of a list that are asked one after another: one of them was proved or failed, or it isn't
 -- told of any.
 module _ {Key Id Name : Type 0} (c d : Context Key Id Name) (ks : List (Binder Key (ClausesKey Key)))
-    (gs : List (ClauseKey Key)) where
+    (e : ParamEnvKey Key) (gs : List (ClauseKey Key)) where
   abbrev pub TellsRound : Round → Type 0
-  TellsRound (Proved i) = (i < length gs) × ((g : ClauseKey Key) × (g ≡ get_or gs i g) × TellsGoal c d ks g Yes)
-  TellsRound Failed = (i : ℕ) × (i < length gs) × ((g : ClauseKey Key) × (g ≡ get_or gs i g) × TellsGoal c d ks g No)
+  TellsRound (Proved i) = (i < length gs) × ((g : ClauseKey Key) × (g ≡ get_or gs i g) × TellsGoal c d ks e g Yes)
+  TellsRound Failed = (i : ℕ) × (i < length gs) × ((g : ClauseKey Key) × (g ≡ get_or gs i g) × TellsGoal c d ks e g No)
   TellsRound (Stuck why) = Unit {0}
 
 module _ {S R Key Id Name : Type 0} (state : S → Context Key Id Name) (with_record : S → R → S) where
@@ -86,9 +87,9 @@ module _ {S R Key Id Name : Type 0} (state : S → Context Key Id Name) (with_re
   MaySettle now (Open why) = Unit {0}
 
   -- What is told of a rule: where the goal follows by it, what is recorded then was kept.
-  module _ (c : Context Key Id Name) (now : S) (ks : List (Binder Key (ClausesKey Key)))
+  module _ (c : Context Key Id Name) (now : S) (ks : List (Binder Key (ClausesKey Key))) (e : ParamEnvKey Key)
       (k : Binder Key (ClausesKey Key)) (g : ClauseKey Key) where
     abbrev pub TellsTried : Tried R → Type 0
-    TellsTried (Follows r) = (h : HasKept c now r) × TellsRule c (state h.where_kept) ks k g Yes
-    TellsTried Fails = TellsRule c (state now) ks k g No
+    TellsTried (Follows r) = (h : HasKept c now r) × TellsRule c (state h.where_kept) ks e k g Yes
+    TellsTried Fails = TellsRule c (state now) ks e k g No
     TellsTried (Unclear why) = Unit {0}

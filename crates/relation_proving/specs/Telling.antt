@@ -5,9 +5,10 @@
 --   GoesOn c d                   all that was recorded stands, and more may be recorded
 --   IsBack c d                   what is recorded is what was
 --   IsExact u c ks rs            the rules and what is recorded are first-order, and these are the rules' trees
---   TellsGoal c d ks g told      what is told of a goal
---   TellsAll c d ks gs told      of all of a list
---   TellsRule c d ks k g told    of a goal and one rule
+--   IsProved c d ks e rs q       what was asked was proved, and no goal is left
+--   TellsGoal c d ks e g told    what is told of a goal
+--   TellsAll c d ks e gs told    of all of a list
+--   TellsRule c d ks e k g told  of a goal and one rule
 use Rattle.std.specs.Prelude.{◌≡◌, ℕ, List, [], ◌∷◌, All, IsTrue, map, Contains}
 use Rattle.std.specs.List.{AllZip}
 use Rattle.relation_terms.specs.declared.terms.binder.Binder.{Binder}
@@ -19,9 +20,10 @@ use Rattle.relation_terms.specs.Meaning.{Extends}
 use Rattle.relation_semantics.specs.Contexts.{Context, KnowsEnv}
 use Rattle.relation_semantics.specs.Steps.{IsLater}
 use Rattle.kept_records.specs.Records.{SameRecord}
-use Rattle.relation_solver.specs.Rules.{Rule}
-use Rattle.relation_solver.specs.Traces.{Did, goal, goals, rule, yes, no, FollowsBy}
-use Rattle.relation_proving.specs.RuleTerms.{KnowsRule, TakesRule, HasRule}
+use Rattle.relation_semantics.specs.Lawful.{items_of}
+use Rattle.relation_solver.specs.Rules.{Rule, Asked, one, all}
+use Rattle.relation_solver.specs.Traces.{Did, goal, goals, rule, yes, no, FollowsBy, Proves}
+use Rattle.relation_proving.specs.RuleTerms.{KnowsRule, TakesRule, HasRule, IsRuleOf}
 use Rattle.relation_proving.specs.Candidates.{IsFirstOrderAt, IsFirstOrderClause, IsFirstOrderRule}
 use Rattle.relation_proving.specs.declared.told.Told.{Told}
 use Rattle.relation_proving.specs.declared.told.Told.TheVariants.{Yes, No, Maybe}
@@ -61,7 +63,11 @@ module _ {Key Id Name : Type 0} where
   abbrev pub goal_tree : Context Key Id Name → ClauseKey Key → Tree
   goal_tree c g = (c.meaning).clause g
 
-  module _ (c d : Context Key Id Name) (ks : List (Binder Key (ClausesKey Key))) where
+  module _ (c d : Context Key Id Name) (ks : List (Binder Key (ClausesKey Key))) (e : ParamEnvKey Key) where
+    -- What is asked was proved from rules without variables, in this environment, and no goal is left.
+    abbrev pub IsProved : List Rule → Asked → Type 0
+    IsProved rs q = Proves (items_of c.meaning) ((c.meaning).param_env e) (d.store).universe [] rs [] c.store q d.store
+
     -- A solver said yes to a goal, and what is recorded stays first-order.
     pub record SaysYes (g : ClauseKey Key) (u : ℕ) (rs : List Rule) : Type 0 where
       pub did : Did u [] rs c.store (goal (goal_tree c g)) (yes d.store)
@@ -79,23 +85,27 @@ module _ {Key Id Name : Type 0} where
 
     -- What is told of a goal. Where it isn't yes, what is recorded is what was.
     abbrev pub TellsGoal : ClauseKey Key → Told → Type 0
-    TellsGoal g Yes = (u : ℕ) (rs : List Rule) → IsExact u c ks rs → IsFirstOrderClause (goal_tree c g) → SaysYes g u rs
+    TellsGoal g Yes = ((u : ℕ) (rs : List Rule) → IsExact u c ks rs → IsFirstOrderClause (goal_tree c g) →
+        SaysYes g u rs) × ((rs : List Rule) → AllZip (IsRuleOf c) ks rs → IsProved rs (one (goal_tree c g)))
     TellsGoal g No = IsBack c d × ((u : ℕ) (rs : List Rule) → IsExact u c ks rs → IsFirstOrderClause (goal_tree c g) →
         Did u [] rs c.store (goal (goal_tree c g)) no)
     TellsGoal g (Maybe why) = IsBack c d
 
     -- What is told of all of a list.
     abbrev pub TellsAll : List (ClauseKey Key) → Told → Type 0
-    TellsAll gs Yes = (u : ℕ) (rs : List Rule) → IsExact u c ks rs → All (λ g. IsFirstOrderClause (goal_tree c g)) gs →
-        SaysYesToAll gs u rs
+    TellsAll gs Yes = ((u : ℕ) (rs : List Rule) → IsExact u c ks rs →
+        All (λ g. IsFirstOrderClause (goal_tree c g)) gs → SaysYesToAll gs u rs) ×
+        ((rs : List Rule) → AllZip (IsRuleOf c) ks rs → IsProved rs (all (map (goal_tree c) gs)))
     TellsAll gs No = (u : ℕ) (rs : List Rule) → IsExact u c ks rs → All (λ g. IsFirstOrderClause (goal_tree c g)) gs →
         Did u [] rs c.store (goals (map (goal_tree c) gs)) no
     TellsAll gs (Maybe why) = Unit {0}
 
     -- What is told of a goal and one of the rules.
     abbrev pub TellsRule : Binder Key (ClausesKey Key) → ClauseKey Key → Told → Type 0
-    TellsRule k g Yes = (u : ℕ) (rs : List Rule) (r : Rule) → IsExact u c ks rs → IsFirstOrderRule c k r →
-        Contains rs r → IsFirstOrderClause (goal_tree c g) → SaysYesBy g u rs r
+    TellsRule k g Yes = ((u : ℕ) (rs : List Rule) (r : Rule) → IsExact u c ks rs → IsFirstOrderRule c k r →
+        Contains rs r → IsFirstOrderClause (goal_tree c g) → SaysYesBy g u rs r) ×
+        ((rs : List Rule) (r : Rule) → AllZip (IsRuleOf c) ks rs → IsRuleOf c k r → Contains rs r →
+        IsProved rs (one (goal_tree c g)))
     TellsRule k g No = (u : ℕ) (rs : List Rule) (r : Rule) → IsExact u c ks rs → IsFirstOrderRule c k r →
         Contains rs r → IsFirstOrderClause (goal_tree c g) → Did u [] rs c.store (rule r (goal_tree c g)) no
     TellsRule k g (Maybe why) = Unit {0}

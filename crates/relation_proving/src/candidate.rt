@@ -105,7 +105,7 @@ pub fn try_rule<C: InferCtxtLike>(
     requires rule_taken { TakesRule (C.state ctx.old) rule }
     requires rule_in { HasRule (C.state ctx.old) rule }
     requires goal { MayAsk (C.state ctx.old) goal.now }
-    ensures tells { IfOk result (TellsCandidate (C.state ctx.old) rule goal.now (C.state ctx.new)) }
+    ensures tells { IfOk result (TellsCandidate (C.state ctx.old) param_env rule goal.now (C.state ctx.new)) }
     ensures later { IsLater (C.state ctx.old).store (C.state ctx.new).store }
     ensures lawful { (C.state ctx.new).lawful }
     ensures grown { Extends (C.state ctx.old).meaning (C.state ctx.new).meaning }

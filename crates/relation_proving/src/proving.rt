@@ -5,7 +5,8 @@ ghost use Rattle.relation_semantics.specs.Steps.{IsLater};
 ghost use Rattle.relation_proving.specs.Candidates.{MayAsk};
 ghost use Rattle.relation_proving.specs.Telling.{MayUse, MayProve, GoesOn, IsBack, TellsGoal, TellsAll, TellsRule};
 ghost use Rattle.relation_proving.specs.Searching.{TellsRound, TellsTried};
-ghost use Rattle.relation_proving.specs.Answers.{YesMakesFollow, YesLosesNone, NoFollowsNever, LeavesNothing};
+ghost use Rattle.relation_proving.specs.Answers.{YesDerives, YesMakesFollow, YesLosesNone};
+ghost use Rattle.relation_proving.specs.Answers.{NoFollowsNever, LeavesNothing};
 
 use crate::candidate::{Candidate, try_rule};
 use crate::opening::RuleOf;
@@ -27,10 +28,11 @@ use relation_terms::terms::{Clause, ParamEnv, Span};
 /// `Maybe(Depth)`, which counts first.
 ///
 /// The interner has to know the environment, the rules and the goal, whose binders bind by their lists; their variables
-/// and placeholders are the context's. Where the goal, the rules and what is recorded are first-order, and no variable
-/// stands in a rule, `Yes` says that each solution which is left makes the goal follow, and that none was lost under
-/// which it follows; and `No` that under no solution it does, at no depth. After `No` and `Maybe` what is recorded is
-/// what was.
+/// and placeholders are the context's. Where no variable stands in a rule, each assignment that satisfies what is
+/// recorded after `Yes` makes the goal derived, by the relation at `Invariant`. Where besides the goal, the rules and
+/// what is recorded are first-order, `Yes` says that up to erasure each solution which is left makes the goal follow,
+/// and that none was lost under which it follows; and `No` that under no solution it does, at no depth. After `No` and
+/// `Maybe` what is recorded is what was.
 ///
 /// # Errors
 /// `Budget` where no instantiation is left, and `Memory` where a growth was refused. More may be recorded then; all
@@ -45,6 +47,7 @@ pub fn prove<C: KeepsRecord>(
 ) -> RelateResult<C::Interner, Told>
     requires may { MayProve (C.state ctx.old) rules.now param_env }
     requires goal { MayAsk (C.state ctx.old) goal.now }
+    ensures derives { YesDerives (C.state ctx.old) (C.state ctx.new) rules.now goal.now param_env result }
     ensures sound { YesMakesFollow (C.state ctx.old) (C.state ctx.new) rules.now goal.now result }
     ensures principal { YesLosesNone (C.state ctx.old) (C.state ctx.new) rules.now goal.now result }
     ensures none { NoFollowsNever (C.state ctx.old) (C.state ctx.new) rules.now goal.now result }
@@ -53,6 +56,7 @@ pub fn prove<C: KeepsRecord>(
     ensures lawful { (C.state ctx.new).lawful }
     ensures grown { Extends (C.state ctx.old).meaning (C.state ctx.new).meaning }
 {
+    laws::derivations();
     laws::goals();
     follows(ctx, rules, param_env, goal, depth, span)
 }
@@ -70,7 +74,7 @@ fn follows<C: KeepsRecord>(
     requires may { MayProve (C.state ctx.old) rules.now param_env }
     requires goal { MayAsk (C.state ctx.old) goal.now }
     ensures goes_on { GoesOn (C.state ctx.old) (C.state ctx.new) }
-    ensures tells { IfOk result (TellsGoal (C.state ctx.old) (C.state ctx.new) rules.now goal.now) }
+    ensures tells { IfOk result (TellsGoal (C.state ctx.old) (C.state ctx.new) rules.now param_env goal.now) }
 {
     if depth == 0 {
         return Ok(Told::Maybe(Why::Depth));
@@ -99,7 +103,7 @@ fn try_and_put_back<C: KeepsRecord>(
     requires goal { MayAsk (C.state ctx.old) goal.now }
     ensures goes_on { GoesOn (C.state ctx.old) (C.state ctx.new) }
     ensures back { IfOk result (λ r. IsBack (C.state ctx.old) (C.state ctx.new)) }
-    ensures tells { IfOk result (TellsTried C.state C.with_record (C.state ctx.old) ctx.new rules.now rule goal.now) }
+    ensures tells { IfOk result (TellsTried C.state C.with_record (C.state ctx.old) ctx.new rules.now param_env rule goal.now) }
 {
     let before = ctx.keep()?;
     let told = follows_by(ctx, rules, param_env, rule, goal, depth, span)?;
@@ -123,7 +127,7 @@ fn follows_by<C: KeepsRecord>(
     requires rule { MayUse (C.state ctx.old) rule }
     requires goal { MayAsk (C.state ctx.old) goal.now }
     ensures goes_on { GoesOn (C.state ctx.old) (C.state ctx.new) }
-    ensures tells { IfOk result (TellsRule (C.state ctx.old) (C.state ctx.new) rules.now rule goal.now) }
+    ensures tells { IfOk result (TellsRule (C.state ctx.old) (C.state ctx.new) rules.now param_env rule goal.now) }
 {
     match try_rule(ctx, param_env, rule, goal, span)? {
         Candidate::Asks(asks) => all_follow(ctx, rules, param_env, asks, depth, span),
@@ -145,7 +149,7 @@ fn all_follow<C: KeepsRecord>(
     requires may { MayProve (C.state ctx.old) rules.now param_env }
     requires asks { All (MayAsk (C.state ctx.old)) asks.items }
     ensures goes_on { GoesOn (C.state ctx.old) (C.state ctx.new) }
-    ensures tells { IfOk result (TellsAll (C.state ctx.old) (C.state ctx.new) rules.now asks.items) }
+    ensures tells { IfOk result (TellsAll (C.state ctx.old) (C.state ctx.new) rules.now param_env asks.items) }
 {
     let mut left = asks;
     'rounds: while !left.is_empty() {
@@ -173,7 +177,7 @@ fn one_follows<C: KeepsRecord>(
     requires may { MayProve (C.state ctx.old) rules.now param_env }
     requires goals { All (MayAsk (C.state ctx.old)) goals.now }
     ensures goes_on { GoesOn (C.state ctx.old) (C.state ctx.new) }
-    ensures tells { IfOk result (TellsRound (C.state ctx.old) (C.state ctx.new) rules.now goals.now) }
+    ensures tells { IfOk result (TellsRound (C.state ctx.old) (C.state ctx.new) rules.now param_env goals.now) }
 {
     let mut why = Why::Ambiguous;
     for (place, goal) in goals.iter().enumerate() {

@@ -1,12 +1,15 @@
 -- What a solver proves is derived.
-use Rattle.std.proofs.Common.{ℕ, List, refl, ap, subst, map, All}
+use Rattle.std.proofs.Common.{ℕ, ◌≤◌, le_trans, List, [], ◌∷◌, refl, ap, subst, map, All}
 use Rattle.term_enums.specs.declared.Variance.TheVariants.{Invariant}
-use Rattle.relation_terms.specs.Trees.{Tree, Assign, apply}
+use Rattle.relation_terms.specs.Trees.{Tree, Assign, apply, Leaves}
 use Rattle.relation_terms.specs.Erasure.{erase}
 use Rattle.relation_semantics.specs.Relation.{Items, Interpretation, Rel, at}
-use Rattle.relation_semantics.specs.Stores.{Store, Satisfies}
+use Rattle.relation_semantics.specs.Steps.{AllNamable}
+use Rattle.relation_semantics.specs.Stores.{Store, Satisfies, IsNamable}
 use Rattle.relation_semantics.specs.Goals.{Goal, Holds}
 use Rattle.relation_semantics.specs.FirstOrder.{IsErasedSolution}
+use Rattle.relation_semantics.proofs.Standing.{namable_mono}
+use Rattle.relation_semantics.proofs.Trees.{Leaves_map}
 use Rattle.relation_semantics.proofs.Values.{variables_fit}
 use Rattle.relation_solver.specs.Rules.{AreClosed, Rule, Asked, one, all, Derives, derived_by, all_derived, next_derived}
 use Rattle.relation_solver.specs.Traces.{Without, first, later, Proves, took, none_asked, one_of}
@@ -18,6 +21,22 @@ use Rattle.relation_solver.proofs.Shadows.{unshadowed}
 -- What satisfies bindings satisfies them up to erasure.
 erased : (w : Interpretation) (st : Store) (s : Assign) → Satisfies w st s → IsErasedSolution st s
 erased w st s h = (h.assigns, λ k n t e. ap erase (h.bindings k n t e))
+
+-- A later universe names what an earlier one does.
+names_more : (v u : ℕ) → v ≤ u → (ts : List Tree) → AllNamable v ts → AllNamable u ts
+names_more v u l [] h = tt
+names_more v u l (t ∷ ts) h =
+    (Leaves_map (IsNamable v) (IsNamable u) (namable_mono v u l) t h.0, names_more v u l ts h.1)
+
+-- So what was proved is proved in a later one.
+pub proved_in : {c : Items} {e : Tree} {v u : ℕ} {held : List Tree} {rules : List Rule} {left : List Goal}
+    {before after : Store} {q : Asked} → v ≤ u → Proves c e v held rules left before q after →
+    Proves c e u held rules left before q after
+proved_in l (took before opened middle after v r vars g i k o f shrinks stands d) =
+    took before opened middle after v r vars g i (le_trans k l) o f shrinks stands (proved_in l d)
+proved_in l (none_asked st) = none_asked st
+proved_in l (one_of before middle after g gs hs a d k) =
+    one_of before middle after g gs hs a (proved_in l d) (proved_in l k)
 
 module _ (c : Items) (e : Tree) (u : ℕ) (held : List Tree) (rules : List Rule) (left : List Goal)
     (closed : AreClosed held) (w : Interpretation) (s : Assign) (holds : All (Holds c w s) left) where
@@ -32,14 +51,14 @@ module _ (c : Items) (e : Tree) (u : ℕ) (held : List Tree) (rules : List Rule)
       Satisfies w after s → Satisfies w before s × Derives c w e u held rules (all (map (apply s) gs))
 
   derives : {before after : Store} {q : Asked} → Proves c e u held rules left before q after → Sound before q after
-  derives (took before opened middle after r vars g i o f shrinks stands d) = λ h.
+  derives (took before opened middle after v r vars g i l o f shrinks stands d) = λ h.
       let p = derives d h in
       let at_opening = shrinks w s p.0 in
       let xs = map (apply s) vars in (
         o.makes.later.shrinks w s at_opening,
-        derived_by r xs (apply s g) i (variables_fit before opened s u r.binds vars at_opening.assigns o.makes.are_new)
-            (variables_namable before opened s u r.binds vars at_opening.assigns o.makes.are_new)
-            (unshadowed u held closed middle r vars o stands s (erased w middle s p.0))
+        derived_by r xs (apply s g) i (variables_fit before opened s v r.binds vars at_opening.assigns o.makes.are_new)
+            (names_more v u l xs (variables_namable before opened s v r.binds vars at_opening.assigns o.makes.are_new))
+            (unshadowed v held closed middle r vars o stands s (erased w middle s p.0))
             (subst (λ t. Rel c w e (at Invariant) (apply s g) t) (opened_value s vars xs r.gives o.gives_closed refl)
             (f w s p.0 holds))
             (subst (λ z. Derives c w e u held rules (all z)) (opened_values s vars xs r.asks o.asks_closed refl) p.1),

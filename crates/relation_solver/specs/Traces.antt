@@ -9,7 +9,7 @@
 --   FollowsBy u held rules st st' r g   a goal followed by a rule: st' is recorded then
 --   Proves c e u held rules gs st q st'   a solver that was asked q in st said yes: st' is recorded then, and the goals
 --                                         gs are left
-use Rattle.std.specs.Prelude.{◌≡◌, ℕ, List, [], ◌∷◌, All, Contains, map}
+use Rattle.std.specs.Prelude.{◌≡◌, ℕ, ◌≤◌, List, [], ◌∷◌, All, Contains, map}
 use Rattle.relation_terms.specs.Trees.{Tree, Assign, apply, inst, Leaves}
 use Rattle.relation_terms.specs.Erasure.{erase}
 use Rattle.term_enums.specs.declared.Variance.TheVariants.{Invariant}
@@ -125,11 +125,11 @@ pub record FollowsBy (u : ℕ) (held : List Tree) (rules : List Rule) (before af
   pub asks : Did u held rules middle (goals (map (inst vars 0) r.asks)) (yes after)
 
 -- The calls by which a solver says yes, where goals may be left: what it relates is related in an environment, at
--- invariance, under what is recorded then and these goals.
+-- invariance, under what is recorded then and these goals. No rule is opened in a universe above u.
 pub data Proves (c : Items) (e : Tree) (u : ℕ) (held : List Tree) (rules : List Rule) (left : List Goal) :
     Store → Asked → Store → Type 0 where
-  took : (before opened middle after : Store) (r : Rule) (vars : List Tree) (g : Tree) → Contains rules r →
-      Opens u before opened r vars → Relates c middle left e Invariant g (inst vars 0 r.gives) →
+  took : (before opened middle after : Store) (v : ℕ) (r : Rule) (vars : List Tree) (g : Tree) → Contains rules r →
+      v ≤ u → Opens v before opened r vars → Relates c middle left e Invariant g (inst vars 0 r.gives) →
       OnlyShrinks opened middle → StandsFirst held middle r vars →
       Proves c e u held rules left middle (all (map (inst vars 0) r.asks)) after →
       Proves c e u held rules left before (one g) after

@@ -23,7 +23,7 @@ follows-returns-then-depth-eq0 g t c =
 pub follows-loop-rule-init : goal.follows-loop-rule-init
 follows-loop-rule-init g t c =
     let s = g.C.InferCtxtLike.state c.args.ctx.now in
-    search_begins g.C.InferCtxtLike.state g.C.KeepsRecord.with_record s c.args.rules.now c.args.goal.now c.args.ctx.now
+    search_begins g.C.InferCtxtLike.state g.C.KeepsRecord.with_record s c.args.rules.now c.args.param_env c.args.goal.now c.args.ctx.now
     (back_itself s c.requires.may.lawful)
 
 pub follows-try_and_put_back-requires : goal.follows-try_and_put_back-requires
@@ -50,18 +50,18 @@ pub follows-loop-rule-preserved : goal.follows-loop-rule-preserved
 follows-loop-rule-preserved g t c =
     let s = g.C.InferCtxtLike.state c.args.ctx.now in
     let inv = c.loop-rule.invariant in
-    subst (Searches g.C.InferCtxtLike.state g.C.KeepsRecord.with_record s c.args.rules.now c.args.goal.now
+    subst (Searches g.C.InferCtxtLike.state g.C.KeepsRecord.with_record s c.args.rules.now c.args.param_env c.args.goal.now
     c.try_and_put_back.new.ctx (c.loop-rule.rule-index + 1)) (sym c.with_tried.ensures)
-    (search_goes_on g.C.InferCtxtLike.state g.C.KeepsRecord.with_record s c.args.rules.now c.args.goal.now
+    (search_goes_on g.C.InferCtxtLike.state g.C.KeepsRecord.with_record s c.args.rules.now c.args.param_env c.args.goal.now
     c.loop-rule.ctx c.try_and_put_back.new.ctx c.loop-rule.rule-index c.rule-item.result c.loop-rule-test.true
-    c.rule-item.is c.requires.may.rules c.requires.goal inv.back c.in_ok-tried.ensures.back c.loop-rule.search
+    c.rule-item.is c.requires.may.env_known c.requires.may.rules c.requires.goal inv.back c.in_ok-tried.ensures.back c.loop-rule.search
     c.in_ok-tried.tried inv.tells c.in_ok-tried.ensures.tells)
 
 pub follows-settle-requires : goal.follows-settle-requires
 follows-settle-requires g t c =
     let s = g.C.InferCtxtLike.state c.args.ctx.now in
     let test = c.loop-rule-test.false in
-    may_settle g.C.InferCtxtLike.state g.C.KeepsRecord.with_record s c.args.rules.now c.args.goal.now
+    may_settle g.C.InferCtxtLike.state g.C.KeepsRecord.with_record s c.args.rules.now c.args.param_env c.args.goal.now
     g.met.C.KeepsRecord.stands c.loop-rule.ctx c.loop-rule.rule-index (omega (arith, test)) c.loop-rule.search
     c.loop-rule.invariant.tells
 
@@ -71,10 +71,10 @@ follows-returns g t c =
     let test = c.loop-rule-test.false in
     let all : length c.args.rules.now ≤ c.loop-rule.rule-index = omega (arith, test) in
     record {
-      goes_on = settles_goes g.C.InferCtxtLike.state g.C.KeepsRecord.with_record s c.args.rules.now c.args.goal.now
+      goes_on = settles_goes g.C.InferCtxtLike.state g.C.KeepsRecord.with_record s c.args.rules.now c.args.param_env c.args.goal.now
           g.met.C.KeepsRecord.stands c.loop-rule.ctx c.loop-rule.rule-index all c.loop-rule.search
           c.loop-rule.invariant c.settle.new.ctx c.settle.ensures.leaves;
-      tells = settles_tells g.C.InferCtxtLike.state g.C.KeepsRecord.with_record s c.args.rules.now c.args.goal.now
+      tells = settles_tells g.C.InferCtxtLike.state g.C.KeepsRecord.with_record s c.args.rules.now c.args.param_env c.args.goal.now
           g.met.C.KeepsRecord.stands c.loop-rule.ctx c.loop-rule.rule-index all c.loop-rule.search
           c.loop-rule.invariant c.settle.new.ctx c.settle.ensures.leaves c.settle.result c.settle.ensures.told;
     }
@@ -113,7 +113,7 @@ try_and_put_back-returns g t c =
     record {
       goes_on = back_goes s (state c.put_back.new.self) back;
       back = back;
-      tells = tried_tells state with_record s c.args.rules.now c.args.rule c.args.goal.now c.follows_by.new.ctx
+      tells = tried_tells state with_record s c.args.rules.now c.args.param_env c.args.rule c.args.goal.now c.follows_by.new.ctx
           c.put_back.new.self c.in_ok-told.ensures.goes_on grown c.in_ok-told.told c.in_ok-tried.tried
           c.in_ok-told.ensures.tells c.in_ok-tried.ensures;
     }
@@ -149,8 +149,9 @@ follows_by-returns-in-Asks g t c =
     let on : GoesOn s d = record { later = e.later; lawful = e.lawful; grown = e.grown } in
     record {
       goes_on = goes_through s d f on c.all_follow.ensures.goes_on;
-      tells = by_asks_result s d f c.args.rule c.args.goal.now c.args.rules.now on c.requires.may.rules c.in-Asks.asks
-          c.in-Asks.ensures.tells c.all_follow.result c.all_follow.ensures.tells;
+      tells = by_asks_result s d f c.args.param_env c.requires.may.env_known c.args.rule c.args.goal.now c.args.rules.now on
+          c.requires.may.rules c.in-Asks.asks c.in-Asks.ensures.tells c.all_follow.ensures.goes_on c.all_follow.result
+          c.all_follow.ensures.tells;
     }
 
 pub follows_by-returns-in-Apart : goal.follows_by-returns-in-Apart
@@ -161,14 +162,14 @@ follows_by-returns-in-Apart g t c =
     let on : GoesOn s d = record { later = e.later; lawful = e.lawful; grown = e.grown } in
     record {
       goes_on = on;
-      tells = by_apart s d d c.args.rule c.args.goal.now c.args.rules.now on c.requires.may.rules
+      tells = by_apart s d d c.args.param_env c.requires.may.env_known c.args.rule c.args.goal.now c.args.rules.now on c.requires.may.rules
           c.in-Apart.ensures.tells;
     }
 
 -- A list.
 pub all_follow-rounds-init : goal.all_follow-rounds-init
 all_follow-rounds-init g t c = asking_begins (g.C.InferCtxtLike.state c.args.ctx.now) c.args.rules.now
-    c.args.asks.items c.requires.may.lawful c.requires.asks
+    c.args.param_env c.args.asks.items c.requires.may.lawful c.requires.asks
 
 pub all_follow-one_follows-requires : goal.all_follow-one_follows-requires
 all_follow-one_follows-requires g t c κs within =
@@ -193,10 +194,11 @@ all_follow-rounds-preserved g t c =
     let d = g.C.InferCtxtLike.state c.rounds.ctx in
     let e = g.C.InferCtxtLike.state c.one_follows.new.ctx in
     let ks = c.args.rules.now in
-    let told : TellsRound d e ks c.rounds.left.items (Proved c.in-Proved.place) =
-    subst (λ gs. TellsRound d e ks gs (Proved c.in-Proved.place)) c.deref.ensures.value c.in-Proved.ensures.tells in
-    subst (AsksOn s e ks c.args.asks.items) (sym c.remove.ensures.items)
-    (asking_goes_on s ks c.args.asks.items d e c.rounds.left.items c.requires.may.rules c.rounds.invariant
+    let told : TellsRound d e ks c.args.param_env c.rounds.left.items (Proved c.in-Proved.place) =
+    subst (λ gs. TellsRound d e ks c.args.param_env gs (Proved c.in-Proved.place)) c.deref.ensures.value c.in-Proved.ensures.tells in
+    subst (AsksOn s e ks c.args.param_env c.args.asks.items) (sym c.remove.ensures.items)
+    (asking_goes_on s ks c.args.param_env c.args.asks.items d e c.rounds.left.items c.requires.may.rules
+    c.requires.may.env_known c.rounds.invariant
     c.in_ok-one_follows.ensures.goes_on c.in-Proved.place told)
 
 pub all_follow-returns-in-Failed : goal.all_follow-returns-in-Failed
@@ -205,11 +207,12 @@ all_follow-returns-in-Failed g t c =
     let d = g.C.InferCtxtLike.state c.rounds.ctx in
     let e = g.C.InferCtxtLike.state c.one_follows.new.ctx in
     let ks = c.args.rules.now in
-    let told : TellsRound d e ks c.rounds.left.items Failed =
-    subst (λ gs. TellsRound d e ks gs Failed) c.deref.ensures.value c.in-Failed.ensures.tells in
+    let told : TellsRound d e ks c.args.param_env c.rounds.left.items Failed =
+    subst (λ gs. TellsRound d e ks c.args.param_env gs Failed) c.deref.ensures.value c.in-Failed.ensures.tells in
     record {
       goes_on = goes_through s d e c.rounds.invariant.goes_on c.in_ok-one_follows.ensures.goes_on;
-      tells = asking_fails s ks c.args.asks.items d e c.rounds.left.items c.requires.may.rules c.rounds.invariant
+      tells = asking_fails s ks c.args.param_env c.args.asks.items d e c.rounds.left.items c.requires.may.rules
+          c.requires.may.env_known c.rounds.invariant
           c.in_ok-one_follows.ensures.goes_on told;
     }
 
@@ -230,7 +233,7 @@ all_follow-returns g t c =
     let none : length c.rounds.left.items ≤ 0 = search rules in
     record {
       goes_on = c.rounds.invariant.goes_on;
-      tells = asking_ended s c.args.rules.now c.args.asks.items d c.rounds.left.items none c.rounds.invariant;
+      tells = asking_ended s c.args.rules.now c.args.param_env c.args.asks.items d c.rounds.left.items none c.rounds.invariant;
     }
 
 -- One goal of a list.
@@ -266,7 +269,7 @@ one_follows-returns-in-Yes g t c =
     let e = g.C.InferCtxtLike.state c.follows.new.ctx in
     record {
       goes_on = goes_through s d e (back_goes s d c.loop-place.invariant) c.in_ok-follows.ensures.goes_on;
-      tells = round_proved s d e c.loop-place.invariant c.args.rules.now c.requires.may.rules c.args.goals.now
+      tells = round_proved s d e c.loop-place.invariant c.args.rules.now c.args.param_env c.requires.may.env_known c.requires.may.rules c.args.goals.now
           c.requires.goals c.loop-place.place c.loop-place-test.true c.index-goals-place.result c.index-goals-place.is
           c.in-Yes.ensures.tells;
     }
@@ -278,7 +281,7 @@ one_follows-returns-in-No g t c =
     let e = g.C.InferCtxtLike.state c.follows.new.ctx in
     record {
       goes_on = goes_through s d e (back_goes s d c.loop-place.invariant) c.in_ok-follows.ensures.goes_on;
-      tells = round_failed s d e c.loop-place.invariant c.args.rules.now c.requires.may.rules c.args.goals.now
+      tells = round_failed s d e c.loop-place.invariant c.args.rules.now c.args.param_env c.requires.may.env_known c.requires.may.rules c.args.goals.now
           c.requires.goals c.loop-place.place c.loop-place-test.true c.index-goals-place.result c.index-goals-place.is
           c.in-No.ensures.tells;
     }

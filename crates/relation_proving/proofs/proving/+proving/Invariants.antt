@@ -22,12 +22,12 @@ decreases-one_follows g l = 5 * l.depth + 1
 -- By the rules so far this is known.
 abbrev pub invariant-follows-loop-rule : goal.invariant-follows-loop-rule
 invariant-follows-loop-rule g l = Searches g.C.InferCtxtLike.state g.C.KeepsRecord.with_record
-    (g.C.InferCtxtLike.state l.initial.ctx) l.rules l.goal l.ctx l.rule-index l.search
+    (g.C.InferCtxtLike.state l.initial.ctx) l.rules l.param_env l.goal l.ctx l.rule-index l.search
 
 -- What is left to ask answers the whole list.
 abbrev pub invariant-all_follow-rounds : goal.invariant-all_follow-rounds
 invariant-all_follow-rounds g l = AsksOn (g.C.InferCtxtLike.state l.initial.ctx) (g.C.InferCtxtLike.state l.ctx) l.rules
-    l.fn.asks.items l.left.items
+    l.param_env l.fn.asks.items l.left.items
 
 abbrev pub decreases-all_follow-rounds : goal.decreases-all_follow-rounds
 decreases-all_follow-rounds g l = vec_len l.left
