@@ -12,9 +12,9 @@ use crate::candidate::{Candidate, try_rule};
 use crate::opening::RuleOf;
 use crate::searching::{Round, Search, Tried, keep_told, settle, with_tried, worse};
 pub use crate::told::{Told, Why};
+use kept_records::KeepsRecord;
 use relation_folds::error::RelateResult;
 use relation_solver::laws;
-use kept_records::KeepsRecord;
 use relation_terms::terms::{Clause, ParamEnv, Span};
 
 /// Whether a goal follows from rules, within a depth: such as impls, and what an environment has, each of its clauses

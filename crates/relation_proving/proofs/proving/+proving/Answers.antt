@@ -35,7 +35,7 @@ follows-try_and_put_back-requires g t c κs within =
     let may = proves_on s d on c.args.rules.now c.args.param_env c.requires.may in
     let used = uses_on s d on c.args.rules.now c.requires.may.rules c.loop-rule.rule-index c.rule-item.result
     c.loop-rule-test.true in
-    let use = subst (λ k. MayUse d k) (sym c.rule-item.is) used in
+    let usable = subst (λ k. MayUse d k) (sym c.rule-item.is) used in
     let asked = ask_on s d on c.args.goal.now c.requires.goal in
     search rules
 
