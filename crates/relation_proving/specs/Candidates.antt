@@ -78,15 +78,16 @@ module _ {Key Id Name : Type 0} where
   abbrev pub trait_tree : Meaning Key Id Name → TraitPredicate Key Id → Tree
   trait_tree m p = clause_kind_tree m (Trait p)
 
-  -- Of a goal and what an opened rule gives: what both say was made one, and these are what the rule asks for; or nothing
-  -- makes it one.
-  module _ (c d : Context Key Id Name) (e : ParamEnvKey Key) (g given : ClauseKey Key) (asks : List (ClauseKey Key)) where
-    abbrev pub TellsOpened : Candidate Key → Type 0
-    TellsOpened (Asks v) = (v.items ≡ asks) × ((q : TraitPredicate Key Id) × (p : TraitPredicate Key Id) ×
-        Say c.meaning g given q p × AreMadeOne c d None trait_tree e q p)
-    TellsOpened Apart = (q : TraitPredicate Key Id) × (p : TraitPredicate Key Id) × Say c.meaning g given q p ×
-        AreToldApart c d None trait_tree e q p
-    TellsOpened Unclear = Unit {0}
+  -- Of a goal and what an opened rule gives: what both say was made one, and these are what the rule asks for; or
+  -- nothing makes it one.
+  module _ (c d : Context Key Id Name) (e : ParamEnvKey Key) (g given : ClauseKey Key) (asks : List (ClauseKey Key))
+    where
+      abbrev pub TellsOpened : Candidate Key → Type 0
+      TellsOpened (Asks v) = (v.items ≡ asks) × ((q : TraitPredicate Key Id) × (p : TraitPredicate Key Id) ×
+          Say c.meaning g given q p × AreMadeOne c d None trait_tree e q p)
+      TellsOpened Apart = (q : TraitPredicate Key Id) × (p : TraitPredicate Key Id) × Say c.meaning g given q p ×
+          AreToldApart c d None trait_tree e q p
+      TellsOpened Unclear = Unit {0}
 
   -- A rule as a tree, without variables. With variables for what it binds each of its clauses is first-order, under a
   -- binder that binds nothing.

@@ -24,8 +24,8 @@ abbrev pub fitting_by : {G : Type 0} → List G → Fitting
 fitting_by [] = Fits
 fitting_by (g ∷ gs) = Left
 
-abbrev pub fitting_after : {Key Id Name : Type 0} → Result (Vec (Goal Key (PredicateKey Key))) (RelateFault Key Id Name) →
-    Result Fitting (RelateFault Key Id Name)
+abbrev pub fitting_after : {Key Id Name : Type 0} →
+    Result (Vec (Goal Key (PredicateKey Key))) (RelateFault Key Id Name) → Result Fitting (RelateFault Key Id Name)
 fitting_after (Ok goals) = Ok (fitting_by goals.items)
 fitting_after (Err (Unrelated e)) = Ok Apart
 fitting_after (Err Budget) = Err Budget

@@ -103,7 +103,8 @@ fn try_and_put_back<C: KeepsRecord>(
     requires goal { MayAsk (C.state ctx.old) goal.now }
     ensures goes_on { GoesOn (C.state ctx.old) (C.state ctx.new) }
     ensures back { IfOk result (λ r. IsBack (C.state ctx.old) (C.state ctx.new)) }
-    ensures tells { IfOk result (TellsTried C.state C.with_record (C.state ctx.old) ctx.new rules.now param_env rule goal.now) }
+    ensures tells { let c = C.state ctx.old in
+        IfOk result (TellsTried C.state C.with_record c ctx.new rules.now param_env rule goal.now) }
 {
     let before = ctx.keep()?;
     let told = follows_by(ctx, rules, param_env, rule, goal, depth, span)?;
