@@ -1,8 +1,8 @@
 -- What the answers of a solver mean: a yes of any rules without variables, all answers of first-order rules, goals and
 -- records.
 --
---   YesDerives c d ks e g result     of any rules without variables: what satisfies the record after a yes makes the goal
---                                    derived
+--   YesDerives c d ks g e result     of any rules without variables: what satisfies the record after a yes derives the
+--                                    goal
 --   YesMakesFollow c d ks g result   after a yes each solution is one before, and makes the goal follow
 --   YesLosesNone c d ks g result     each solution before under which it follows goes on
 --   NoFollowsNever c d ks g result   after a no it follows under none, at no depth
