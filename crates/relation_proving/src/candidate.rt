@@ -11,7 +11,7 @@ use crate::opening::{RuleOf, open_rule};
 use crate::reading::{TraitPredicateOf, trait_body};
 use relation_folds::error::RelateResult;
 use relation_semantics::infer_ctxt::InferCtxtLike;
-use relation_terms::terms::{Clause, ClauseKey, Keys, ParamEnv, Span};
+use relation_terms::terms::{Clause, ClauseKey, Interner, Keys, ParamEnv, Span};
 
 /// What became of a rule that was tried for a goal, over keys.
 #[derive(Drop)]
@@ -29,7 +29,7 @@ pub enum Candidate<X> {
 pub type CandidateOf<I> = Candidate<<I as Keys>::Key>;
 
 // What becomes of a rule by what became of the goal and what it gives.
-fn candidate_of<X>(fitting: Fitting, asks: Vec<ClauseKey<X>>) -> Candidate<X>
+fn candidate_of<X: Copy>(fitting: Fitting, asks: Vec<ClauseKey<X>>) -> Candidate<X>
     ensures { result ≡ candidate_by asks fitting }
 {
     match fitting {

@@ -60,5 +60,5 @@ pub fn fit<C: InferCtxtLike, T: Relate<C::Interner>>(
     ensures lawful { (C.state ctx.new).lawful }
     ensures grown { Extends (C.state ctx.old).meaning (C.state ctx.new).meaning }
 {
-    fitting_of(ctx.relate(param_env, goal, Variance::Invariant, given, span))
+    fitting_of::<C::Interner>(ctx.relate(param_env, goal, Variance::Invariant, given, span))
 }
