@@ -1,7 +1,7 @@
 -- What a solver proves is derived.
 use Rattle.std.proofs.Common.{ℕ, ◌≤◌, le_trans, List, [], ◌∷◌, refl, ap, subst, map, All}
 use Rattle.term_enums.specs.declared.Variance.TheVariants.{Invariant}
-use Rattle.relation_terms.specs.Trees.{Tree, Assign, apply, Leaves}
+use Rattle.relation_terms.specs.Trees.{Tree, Assign, apply}
 use Rattle.relation_terms.specs.Erasure.{erase}
 use Rattle.relation_semantics.specs.Relation.{Items, Interpretation, Rel, at}
 use Rattle.relation_semantics.specs.Steps.{AllNamable}
