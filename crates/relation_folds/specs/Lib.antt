@@ -1,6 +1,7 @@
 pub mod Faults
 pub mod Visits
 pub mod Folds
+pub mod Places
 pub mod KeyFolds
 pub mod Firsts
 pub mod Forms

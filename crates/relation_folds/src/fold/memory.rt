@@ -1,25 +1,54 @@
 //! What a fold has made so far: a part that has a key is not folded again where it was met at the same depth.
 //!
 //! What has none, as a signature, is folded each time; its types and lists are kept.
-ghost use Rattle.std.specs.Prelude.{◌≡◌, IsTrue, IfSome};
+ghost use Rattle.std.specs.Prelude.{◌≡◌, [], fold, IsTrue, IfSome};
 ghost use Rattle.std.specs.HashMap.{IsEmpty};
 ghost use Rattle.relation_terms.specs.Trees.{known};
 ghost use Rattle.relation_terms.specs.Parts.{part_tree};
 ghost use Rattle.relation_folds.specs.Folds.{IsMade, Recalls, place_of as the_place};
+ghost use Rattle.relation_folds.specs.Places.{fed_depth};
 
 use crate::fold::TypeFolder;
 use delayed_map::CACHE_CUTOFF;
+use delayed_map::widening::widen_map;
 use relation_terms::terms::{Interner, OutOfMemory, Part, PartOf};
+use std::alloc::Global;
 use std::collections::HashMap;
-use std::hash::{BuildHasherDefault, Hash};
+use std::hash::{BuildHasherDefault, Hash, Hasher};
+use std::mem::replace;
 use term_enums::hashing::KeyHasher;
 
 /// A part at a depth: of which sort it is, its key, and how many binders stand around it.
-#[derive(Clone, Copy, PartialEq, Eq, Hash)]
+#[derive(Clone, Copy, PartialEq, Eq)]
 pub struct Place<X> {
     pub sort: u8,
     pub key: X,
     pub depth: u128,
+}
+
+// A depth of 0, at which most parts stand, is not hashed.
+#[inline(always)]
+fn hash_depth<H: Hasher>(depth: u128, state: &mut H)
+    ensures { state.new ≡ fold H.write state.old (fed_depth depth) }
+{
+    if depth != 0 {
+        depth.hash(state);
+    }
+}
+
+// The key tells most places apart, so its sort is not hashed.
+impl<X: Hash> Hash for Place<X> {
+    ghost use Rattle.relation_folds.specs.Places.{fed_place, fed_alike};
+
+    ghost hash_input = { fed_place X.hash_input };
+
+    ghost respects_eq = { λ p q h. fed_alike X.eq X.hash_input X.respects_eq p q h };
+
+    #[inline(always)]
+    fn hash<H: Hasher>(&self, state: &mut H) {
+        self.key.hash(state);
+        hash_depth(self.depth, state);
+    }
 }
 
 /// What a fold has made of the parts that it has met, but for those that were the first: a small fold ends before it
@@ -28,6 +57,10 @@ pub struct Place<X> {
 pub struct Memory<X: Eq + Hash, D> {
     pub made: HashMap<Place<X>, Part<X, D>, BuildHasherDefault<KeyHasher>>,
     pub let_go: u32,
+    /// A list that is done with: the next one stands in its memory.
+    pub spare: Vec<Part<X, D>>,
+    /// More of them, where one was made while others stood.
+    pub others: Vec<Vec<Part<X, D>>>,
 }
 
 /// A part at a depth, where it has a key.
@@ -56,10 +89,53 @@ pub fn nothing<I: Interner>(cx: &I) -> Memory<I::Key, I::Id>
     Memory {
         made: HashMap::with_hasher(cx.alloc(), BuildHasherDefault::new()),
         let_go: 0,
+        spare: Vec::new(cx.alloc()),
+        others: Vec::new(cx.alloc()),
     }
 }
 
+// A list that is done with, or, where there is none, one that takes no memory.
+fn old_list<X: Copy + Eq + Hash, D: Copy>(
+    memory: &mut Memory<X, D>,
+    alloc: Global,
+) -> Vec<Part<X, D>>
+    ensures { memory.new.made ≡ memory.old.made }
+{
+    if memory.spare.capacity() > 0 {
+        return replace(&mut memory.spare, Vec::new(alloc));
+    }
+    match memory.others.pop() {
+        Some(list) => list,
+        None => Vec::new(alloc),
+    }
+}
+
+/// An empty list, in the memory of one that is done with where there is one.
+pub fn empty_list<X: Copy + Eq + Hash, D: Copy>(
+    memory: &mut Memory<X, D>,
+    alloc: Global,
+) -> Vec<Part<X, D>>
+    ensures empty { result.items ≡ [] }
+    ensures made { memory.new.made ≡ memory.old.made }
+{
+    let mut list = old_list(memory, alloc);
+    list.clear();
+    list
+}
+
+/// Keeps the memory of a list that is done with. Where there is no room for that, it is given back.
+pub fn give_back<X: Copy + Eq + Hash, D: Copy>(memory: &mut Memory<X, D>, list: Vec<Part<X, D>>)
+    ensures { memory.new.made ≡ memory.old.made }
+{
+    if memory.spare.capacity() == 0 {
+        memory.spare = list;
+        return;
+    }
+    let _ = memory.others.push(list);
+}
+
 /// What was made of the part at this depth, if it was met there before.
+#[inline(always)]
 pub fn recall<I: Interner, F: TypeFolder<I>>(
     _cx: &I,
     _folder: &F,
@@ -79,6 +155,7 @@ pub fn recall<I: Interner, F: TypeFolder<I>>(
 }
 
 /// Keeps what was made of the part at this depth, if enough were let go.
+#[inline(always)]
 pub fn keep<I: Interner, F: TypeFolder<I>>(
     _cx: &I,
     _folder: &F,
@@ -97,6 +174,7 @@ pub fn keep<I: Interner, F: TypeFolder<I>>(
     }
     if let Some(place) = place_of(part, depth) {
         memory.made.insert(place, made)?;
+        let _ = widen_map(&mut memory.made);
     }
     Ok(())
 }

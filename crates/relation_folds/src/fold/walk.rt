@@ -4,7 +4,7 @@
 //! there are different parts, and at most 32 more.
 //!
 //! The part of a binder stands one binder deeper, and all others as deep as the term that they are parts of.
-ghost use Rattle.std.specs.Prelude.{◌≡◌, ◌≤◌, IsTrue, IfOk, option_map};
+ghost use Rattle.std.specs.Prelude.{◌≡◌, ◌≤◌, [], IsTrue, IfOk, option_map};
 ghost use Rattle.relation_terms.specs.Trees.{known, count};
 ghost use Rattle.relation_terms.specs.Parts.{part_tree, parts_tree, part_sort, Alike};
 ghost use Rattle.relation_folds.specs.Folds.{Steps, folded, KnownAnswer, Folds, members_tree, FitMembers, inside_part};
@@ -12,7 +12,7 @@ ghost use Rattle.relation_folds.specs.Folds.{Remembers};
 ghost use Rattle.relation_folds.specs.Firsts.{AreFirsts};
 ghost use Rattle.relation_folds.specs.KeyFolds.{FoldsPart, FoldsPartsOf, FoldsList};
 
-use crate::fold::memory::{Memory, Place, keep, nothing, recall};
+use crate::fold::memory::{Memory, Place, empty_list, give_back, keep, nothing, recall};
 use crate::fold::{Fold, TypeFolder};
 use relation_terms::terms::parts::{
     is_same, make_parts, member, member_count, parts_of, with_parts,
@@ -79,15 +79,50 @@ pub fn first_members<I: Interner>(
     ensures { IfOk result (λ list.
         AreFirsts (part_tree (I.meaning cx.now)) amount (parts_tree (I.meaning cx.now) parts.now) list.items) }
 {
-    let mut list = Vec::new(cx.alloc());
+    firsts_in(cx, Vec::new(cx.alloc()), parts, amount)
+}
+
+// The same in the memory of a list, in which nothing stands.
+fn firsts_in<I: Interner>(
+    cx: &I,
+    empty: Vec<PartOf<I>>,
+    parts: &PartsOf<I>,
+    amount: usize,
+) -> Result<Vec<PartOf<I>>, OutOfMemory>
+    requires empty { empty.items ≡ [] }
+    requires list_known { IsTrue (known (parts_tree (I.meaning cx.now) parts.now)) }
+    requires in_bounds { amount ≤ count (parts_tree (I.meaning cx.now) parts.now) }
+    ensures { IfOk result (λ list.
+        AreFirsts (part_tree (I.meaning cx.now)) amount (parts_tree (I.meaning cx.now) parts.now) list.items) }
+{
+    let mut list = empty;
     for i in 0..amount {
         list.push(member(cx, parts, i))?;
     }
     Ok(list)
 }
 
+// The same in the memory of a list that is done with, where there is one.
+#[inline(never)]
+fn firsts_again<I: Interner>(
+    cx: &I,
+    memory: &mut Memory<I::Key, I::Id>,
+    parts: &PartsOf<I>,
+    amount: usize,
+) -> Result<Vec<PartOf<I>>, OutOfMemory>
+    requires list_known { IsTrue (known (parts_tree (I.meaning cx.now) parts.now)) }
+    requires in_bounds { amount ≤ count (parts_tree (I.meaning cx.now) parts.now) }
+    ensures firsts { IfOk result (λ list.
+        AreFirsts (part_tree (I.meaning cx.now)) amount (parts_tree (I.meaning cx.now) parts.now) list.items) }
+    ensures made { memory.new.made ≡ memory.old.made }
+{
+    let list = empty_list(memory, cx.alloc());
+    firsts_in(cx, list, parts, amount)
+}
+
 // What the folder makes of a part that stands under `depth` binders: what it made before, where it has met it there.
 #[cycle(walk)]
+#[inline(always)]
 fn fold_met<I: Interner, F: TypeFolder<I>>(
     cx: &mut I,
     part: &PartOf<I>,
@@ -116,6 +151,7 @@ fn fold_met<I: Interner, F: TypeFolder<I>>(
 
 // The same of a part that it meets for the first time: what it puts for it, or else the part with its own parts folded.
 #[cycle(walk)]
+#[inline(always)]
 fn fold_new<I: Interner, F: TypeFolder<I>>(
     cx: &mut I,
     part: &PartOf<I>,
@@ -142,6 +178,7 @@ fn fold_new<I: Interner, F: TypeFolder<I>>(
 
 // The part with its own parts folded, whatever the folder puts for it. Where they are what they were, so is the part.
 #[cycle(walk)]
+#[inline(always)]
 fn fold_inside<I: Interner, F: TypeFolder<I>>(
     cx: &mut I,
     part: &PartOf<I>,
@@ -162,7 +199,11 @@ fn fold_inside<I: Interner, F: TypeFolder<I>>(
 {
     let inside = depth_inside(part, depth)?;
     match fold_members(cx, &parts_of(cx, part), inside, folder, memory)? {
-        Some(made) => with_parts(cx, part, &made),
+        Some(made) => {
+            let whole = with_parts(cx, part, &made);
+            give_back(memory, made);
+            whole
+        }
         None => Ok(*part),
     }
 }
@@ -199,7 +240,7 @@ fn fold_members<I: Interner, F: TypeFolder<I>>(
         if differs {
             made.push(new)?;
         } else if !is_same(cx, &new, &old) {
-            made = first_members(cx, parts, i)?;
+            made = firsts_again(cx, memory, parts, i)?;
             made.push(new)?;
             differs = true;
         }

@@ -8,7 +8,7 @@ use Rattle.relation_terms.proofs.Members.{member_small, parts_small, if_ok}
 use Rattle.relation_terms.proofs.Parts.{sort_known, stays_part, stays_parts}
 use Rattle.relation_folds.specs.Folds.{Folds, KnownAnswer, IsMade, folded, folded_parts, inside}
 use Rattle.relation_folds.proofs.Folding.{steps_none, steps_on, steps_grown, folded_later, parts_later, later}
-use Rattle.relation_folds.proofs.Remembering.{place_eq, remembers_on}
+use Rattle.relation_folds.proofs.Remembering.{place_eq, remembers_on, remembers_as}
 use Rattle.relation_folds.proofs.Members.{Built, built_firsts, built_next, built_all, left_more, left_all, whole_made}
 use Rattle.relation_folds.proofs.Members.{whole_left}
 use Rattle.relation_folds.proofs.Members.{some_sure, some_made, some_fits, none_made}
@@ -155,7 +155,9 @@ pub fold_inside-returns-in-Some : goal.fold_inside-returns-in-Some
 fold_inside-returns-in-Some g t' c =
     let m = g.I.Interner.meaning c.args.cx.now in
     let n = g.I.Interner.meaning c.fold_members.new.cx in
+    let l = g.I.Interner.meaning c.with_parts.new.cx in
     let p = g.F.TypeFolder.replaces m c.args.folder.now in
+    let eq = place_eq g.I.Key.PartialEq.eq in
     let x = c.args.part.now in
     let sorted : Sorted m = g.met.I.Interner.sorted c.args.cx.now in
     let deep : c.in_ok-inside.inside ≡ inside (part_tree m x) c.args.depth =
@@ -171,9 +173,9 @@ fold_inside-returns-in-Some g t' c =
     ∙ ap (folded p c.in_ok-inside.inside) c.parts_of.ensures.means) in
     record {
       steps = steps_grown g.met.F.TypeFolder.ready_on g.met.F.TypeFolder.replaces_on r.steps o.grown;
-      remembers = remembers_on (steps_grown g.met.F.TypeFolder.ready_on g.met.F.TypeFolder.replaces_on
-          (steps_none n c.fold_members.new.folder r.steps.ready) o.grown) (place_eq g.I.Key.PartialEq.eq)
-          (c.fold_members.new.memory).made r.remembers;
+      remembers = remembers_as l (g.F.TypeFolder.replaces l c.fold_members.new.folder) eq c.give_back.ensures
+          (remembers_on (steps_grown g.met.F.TypeFolder.ready_on g.met.F.TypeFolder.replaces_on
+          (steps_none n c.fold_members.new.folder r.steps.ready) o.grown) eq (c.fold_members.new.memory).made r.remembers);
       sure = o.sure;
       made = if_ok c.with_parts.result (λ y h. h ∙ whole_made p c.args.depth c.in_ok-inside.inside (part_tree m x)
           (part_tree n x) us deep e q)
@@ -268,8 +270,8 @@ pub fold_members-returns-in_err-new-clause-steps : goal.fold_members-returns-in_
 fold_members-returns-in_err-new-clause-steps g t' c =
     steps_on c.loop-i.invariant.steps c.in_err-new.ensures.steps
 
-pub fold_members-first_members-requires : goal.fold_members-first_members-requires
-fold_members-first_members-requires g t' c =
+pub fold_members-firsts_again-requires : goal.fold_members-firsts_again-requires
+fold_members-firsts_again-requires g t' c =
     let m = g.I.Interner.meaning c.args.cx.now in
     let o = g.I.Interner.meaning c.fold_met.new.cx in
     let ps = c.args.parts.now in
@@ -292,9 +294,21 @@ pub fold_members-returns-in_err-made-clause-steps : goal.fold_members-returns-in
 fold_members-returns-in_err-made-clause-steps g t' c =
     steps_on c.loop-i.invariant.steps c.in_ok-new.ensures.steps
 
+pub fold_members-returns-in_err-made-clause-remembers : goal.fold_members-returns-in_err-made-clause-remembers
+fold_members-returns-in_err-made-clause-remembers g t' c =
+    let o = g.I.Interner.meaning c.fold_met.new.cx in
+    let q = g.F.TypeFolder.replaces o c.fold_met.new.folder in
+    remembers_as o q (place_eq g.I.Key.PartialEq.eq) c.in_err-made.ensures.made c.in_ok-new.ensures.remembers
+
 pub fold_members-returns-in_err-push-2-clause-steps : goal.fold_members-returns-in_err-push-2-clause-steps
 fold_members-returns-in_err-push-2-clause-steps g t' c =
     steps_on c.loop-i.invariant.steps c.in_ok-new.ensures.steps
+
+pub fold_members-returns-in_err-push-2-clause-remembers : goal.fold_members-returns-in_err-push-2-clause-remembers
+fold_members-returns-in_err-push-2-clause-remembers g t' c =
+    let o = g.I.Interner.meaning c.fold_met.new.cx in
+    let q = g.F.TypeFolder.replaces o c.fold_met.new.folder in
+    remembers_as o q (place_eq g.I.Key.PartialEq.eq) c.in_ok-made.ensures.made c.in_ok-new.ensures.remembers
 
 pub fold_members-loop-i-preserved : goal.fold_members-loop-i-preserved
 fold_members-loop-i-preserved g t' c =
@@ -302,6 +316,8 @@ fold_members-loop-i-preserved g t' c =
     let n = g.I.Interner.meaning c.loop-i.cx in
     let o = g.I.Interner.meaning c.fold_met.new.cx in
     let p = g.F.TypeFolder.replaces m c.args.folder.now in
+    let q = g.F.TypeFolder.replaces o c.fold_met.new.folder in
+    let eq = place_eq g.I.Key.PartialEq.eq in
     let d = c.args.depth in
     let ps = c.args.parts.now in
     let ts = parts_tree m ps in
@@ -325,7 +341,7 @@ fold_members-loop-i-preserved g t' c =
       | fold_members-then-differs+in_ok-push w ↦
           record {
             steps = steps_on s r.steps;
-            remembers = r.remembers;
+            remembers = remembers_as o q eq (ap (λ v. v.made) w.memory-is) r.remembers;
             built = λ h. subst (λ v. Built p d (part_tree o) (i + 1) ts v.items) (sym w.made-is)
                 (built_next p d (part_tree n) (part_tree o) (stays_part r.steps.grown) y i (i + 1) ts
                 c.loop-i.made.items _ (c.loop-i.invariant.built w.if-differs.true) below next made r.sure sort
@@ -335,10 +351,10 @@ fold_members-loop-i-preserved g t' c =
       | fold_members-else-differs+then-not-is_same+in_ok-made+in_ok-push-2 w ↦
           record {
             steps = steps_on s r.steps;
-            remembers = r.remembers;
+            remembers = remembers_as o q eq (ap (λ v. v.made) w.memory-is ∙ w.in_ok-made.ensures.made) r.remembers;
             built = λ h. subst (λ v. Built p d (part_tree o) (i + 1) ts v.items) (sym w.made-is)
                 (built_next p d (part_tree o) (part_tree o) (λ z k. refl) y i (i + 1) ts w.in_ok-made.made.items _
-                (built_firsts p d (part_tree o) i ts (parts_tree o ps) w.in_ok-made.made.items w.in_ok-made.ensures whole
+                (built_firsts p d (part_tree o) i ts (parts_tree o ps) w.in_ok-made.made.items w.in_ok-made.ensures.firsts whole
                 (c.loop-i.invariant.left w.if-differs.false)) below next made r.sure sort
                 w.in_ok-push-2.ensures.items);
             left = λ h. absurd (false≢true (sym h ∙ w.differs-is));
@@ -346,7 +362,7 @@ fold_members-loop-i-preserved g t' c =
       | fold_members-else-differs+else-not-is_same w ↦
           record {
             steps = steps_on s r.steps;
-            remembers = r.remembers;
+            remembers = remembers_as o q eq (ap (λ v. v.made) w.memory-is) r.remembers;
             built = λ h. absurd (false≢true (sym w.if-differs.false ∙ sym w.differs-is ∙ h));
             left = λ h. left_more p d i (i + 1) ts (part_tree o x) (part_tree o y)
                 (c.loop-i.invariant.left w.if-differs.false) (w.is_same.ensures.one w.if-not-is_same.false) made
