@@ -4,6 +4,7 @@ pub mod Folds
 pub mod Places
 pub mod KeyFolds
 pub mod Firsts
+pub mod Stacks
 pub mod Forms
 pub mod Clashes
 pub mod Outlines

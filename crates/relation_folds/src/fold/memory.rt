@@ -1,7 +1,7 @@
 //! What a fold has made so far: a part that has a key is not folded again where it was met at the same depth.
 //!
 //! What has none, as a signature, is folded each time; its types and lists are kept.
-ghost use Rattle.std.specs.Prelude.{◌≡◌, [], fold, IsTrue, IfSome};
+ghost use Rattle.std.specs.Prelude.{◌≡◌, ◌≤◌, [], length, drop, fold, IsTrue, IfSome};
 ghost use Rattle.std.specs.HashMap.{IsEmpty};
 ghost use Rattle.relation_terms.specs.Trees.{known};
 ghost use Rattle.relation_terms.specs.Parts.{part_tree};
@@ -12,10 +12,8 @@ use crate::fold::TypeFolder;
 use delayed_map::CACHE_CUTOFF;
 use delayed_map::widening::widen_map;
 use relation_terms::terms::{Interner, OutOfMemory, Part, PartOf};
-use std::alloc::Global;
 use std::collections::HashMap;
 use std::hash::{BuildHasherDefault, Hash, Hasher};
-use std::mem::replace;
 use term_enums::hashing::KeyHasher;
 
 /// A part at a depth: of which sort it is, its key, and how many binders stand around it.
@@ -57,10 +55,8 @@ impl<X: Hash> Hash for Place<X> {
 pub struct Memory<X: Eq + Hash, D> {
     pub made: HashMap<Place<X>, Part<X, D>, BuildHasherDefault<KeyHasher>>,
     pub let_go: u32,
-    /// A list that is done with: the next one stands in its memory.
-    pub spare: Vec<Part<X, D>>,
-    /// More of them, where one was made while others stood.
-    pub others: Vec<Vec<Part<X, D>>>,
+    /// The lists that are being made, each upon those that it is made for.
+    pub stack: Vec<Part<X, D>>,
 }
 
 /// A part at a depth, where it has a key.
@@ -82,56 +78,26 @@ pub fn place_of<X: Copy, D: Copy>(part: &Part<X, D>, depth: u128) -> Option<Plac
     Some(Place { sort, key, depth })
 }
 
-/// Nothing is remembered where a fold begins.
+/// Nothing is remembered where a fold begins, and no list is being made.
 pub fn nothing<I: Interner>(cx: &I) -> Memory<I::Key, I::Id>
-    ensures { IsEmpty result.made }
+    ensures made { IsEmpty result.made }
+    ensures stack { result.stack.items ≡ [] }
 {
     Memory {
         made: HashMap::with_hasher(cx.alloc(), BuildHasherDefault::new()),
         let_go: 0,
-        spare: Vec::new(cx.alloc()),
-        others: Vec::new(cx.alloc()),
+        stack: Vec::new(cx.alloc()),
     }
 }
 
-// A list that is done with, or, where there is none, one that takes no memory.
-fn old_list<X: Copy + Eq + Hash, D: Copy>(
-    memory: &mut Memory<X, D>,
-    alloc: Global,
-) -> Vec<Part<X, D>>
-    ensures { memory.new.made ≡ memory.old.made }
+/// What stands upon the stack from a place on.
+#[inline(always)]
+pub fn top<X: Copy + Eq + Hash, D: Copy>(memory: &Memory<X, D>, start: usize) -> &[Part<X, D>]
+    requires { start ≤ length (memory.now).stack.items }
+    ensures { result.now ≡ drop start (memory.now).stack.items }
 {
-    if memory.spare.capacity() > 0 {
-        return replace(&mut memory.spare, Vec::new(alloc));
-    }
-    match memory.others.pop() {
-        Some(list) => list,
-        None => Vec::new(alloc),
-    }
-}
-
-/// An empty list, in the memory of one that is done with where there is one.
-pub fn empty_list<X: Copy + Eq + Hash, D: Copy>(
-    memory: &mut Memory<X, D>,
-    alloc: Global,
-) -> Vec<Part<X, D>>
-    ensures empty { result.items ≡ [] }
-    ensures made { memory.new.made ≡ memory.old.made }
-{
-    let mut list = old_list(memory, alloc);
-    list.clear();
-    list
-}
-
-/// Keeps the memory of a list that is done with. Where there is no room for that, it is given back.
-pub fn give_back<X: Copy + Eq + Hash, D: Copy>(memory: &mut Memory<X, D>, list: Vec<Part<X, D>>)
-    ensures { memory.new.made ≡ memory.old.made }
-{
-    if memory.spare.capacity() == 0 {
-        memory.spare = list;
-        return;
-    }
-    let _ = memory.others.push(list);
+    let (_, top) = memory.stack.as_slice().split_at(start);
+    top
 }
 
 /// What was made of the part at this depth, if it was met there before.
@@ -166,7 +132,8 @@ pub fn keep<I: Interner, F: TypeFolder<I>>(
 ) -> Result<(), OutOfMemory>
     requires made { IsMade (I.meaning _cx.now) (F.replaces (I.meaning _cx.now) _folder.now) part.now depth made }
     requires remembers { Recalls F.replaces I.meaning _cx.now _folder.now ⟦<Place<I::Key> as PartialEq>⟧.eq memory.old }
-    ensures { Recalls F.replaces I.meaning _cx.now _folder.now ⟦<Place<I::Key> as PartialEq>⟧.eq memory.new }
+    ensures remembers { Recalls F.replaces I.meaning _cx.now _folder.now ⟦<Place<I::Key> as PartialEq>⟧.eq memory.new }
+    ensures stack { (memory.new).stack.items ≡ (memory.old).stack.items }
 {
     if memory.let_go < CACHE_CUTOFF {
         memory.let_go += 1;

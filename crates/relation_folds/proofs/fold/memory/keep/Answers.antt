@@ -2,8 +2,8 @@ use Rattle.std.proofs.Common.{◌∙◌, sym}
 use Rattle.relation_folds.proofs.Remembering.{place_eq, remembers_more, remembers_same}
 use Rattle.relation_folds.proofs.fold.memory.keep.Goals as goal
 
-pub returns-in_ok-insert : goal.returns-in_ok-insert
-returns-in_ok-insert g c =
+pub returns-in_ok-insert-clause-remembers : goal.returns-in_ok-insert-clause-remembers
+returns-in_ok-insert-clause-remembers g c =
     let m = g.I.Interner.meaning c.args._cx.now in
     let puts = g.F.TypeFolder.replaces m c.args._folder.now in
     let eq = place_eq g.I.Key.PartialEq.eq in

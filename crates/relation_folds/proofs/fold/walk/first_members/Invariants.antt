@@ -1,6 +1,6 @@
 use Rattle.relation_terms.specs.Parts.{part_tree, parts_tree}
 use Rattle.relation_folds.specs.Firsts.{AreFirsts}
-use Rattle.relation_folds.proofs.fold.walk.firsts_in.Given as goal
+use Rattle.relation_folds.proofs.fold.walk.first_members.Given as goal
 
 abbrev pub invariant-loop-i : goal.invariant-loop-i
 invariant-loop-i g l =

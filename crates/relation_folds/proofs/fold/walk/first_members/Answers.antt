@@ -4,14 +4,8 @@ use Rattle.relation_terms.specs.Parts.{part_tree, parts_tree, tree_sort}
 use Rattle.relation_terms.specs.Interning.{Sorted}
 use Rattle.relation_terms.proofs.Parts.{sort_known}
 use Rattle.relation_folds.specs.Firsts.{AreFirsts}
-use Rattle.relation_folds.proofs.Members.{firsts_none, firsts_next}
-use Rattle.relation_folds.proofs.fold.walk.firsts_in.Goals as goal
-
-pub loop-i-init : goal.loop-i-init
-loop-i-init g c =
-    let m = g.I.Interner.meaning c.args.cx.now in
-    let ts = parts_tree m c.args.parts.now in
-    record { firsts = firsts_none (part_tree m) ts c.args.empty.items c.requires.empty }
+use Rattle.relation_folds.proofs.Members.{firsts_next}
+use Rattle.relation_folds.proofs.fold.walk.first_members.Goals as goal
 
 pub loop-i-preserved : goal.loop-i-preserved
 loop-i-preserved g c =
