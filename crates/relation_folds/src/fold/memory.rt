@@ -40,7 +40,7 @@ impl<X: Hash> Hash for Place<X> {
 
     ghost hash_input = { fed_place X.hash_input };
 
-    ghost respects_eq = { λ p q h. fed_alike X.eq X.hash_input X.respects_eq p q h };
+    ghost respects_eq = { λ p q h. fed_alike _ X.hash_input X.respects_eq p q h };
 
     #[inline(always)]
     fn hash<H: Hasher>(&self, state: &mut H) {
