@@ -52,6 +52,7 @@ pub struct MetKey<X> {
 pub type MetTypes<X> = HashMap<MetKey<X>, TyKey<X>, BuildHasherDefault<KeyHasher>>;
 
 // What the type became at the variance on the side, if it was met before.
+#[inline(always)]
 fn recall_type<I: Interner>(
     _cx: &I,
     ty: &Ty<I>,
@@ -78,6 +79,7 @@ fn recall_type<I: Interner>(
 }
 
 // Keeps what the type became at the variance on the side.
+#[inline(always)]
 fn keep_type<I: Interner>(
     _cx: &I,
     ty: &Ty<I>,
@@ -174,6 +176,7 @@ impl<I: Interner> RefCtxt<I> {
     // The term as a target is bound to it, on a side of aliases at a variance. A type that was met before becomes what
     // it became then.
     #[cycle(generalise)]
+    #[inline(always)]
     fn generalise_part(
         &mut self,
         term: &PartOf<I>,
@@ -244,6 +247,7 @@ impl<I: Interner> RefCtxt<I> {
 
     // The same of a term that stays as a form. Where its parts become what they are, nothing is made.
     #[cycle(generalise)]
+    #[inline(always)]
     fn generalise_parts(
         &mut self,
         term: &PartOf<I>,

@@ -45,6 +45,7 @@ fn key_of<X: Copy, D: Copy>(part: &Part<X, D>) -> Option<PartKey<X>>
 }
 
 // What the part was resolved to, if it was met before. `inner` is what the parts were resolved by.
+#[inline(always)]
 pub(crate) fn recall_resolved<I: Interner>(
     _cx: &I,
     _inner: &InferCtxtInner<I::Key>,
@@ -60,6 +61,7 @@ pub(crate) fn recall_resolved<I: Interner>(
 }
 
 // Keeps what the part was resolved to.
+#[inline(always)]
 pub(crate) fn keep_resolved<I: Interner>(
     _cx: &I,
     _inner: &InferCtxtInner<I::Key>,

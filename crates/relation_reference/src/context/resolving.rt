@@ -45,6 +45,7 @@ fn shallow_part<I: Interner>(cx: &I, inner: &InferCtxtInner<I::Key>, term: &Part
 // The term with each variable that has a term replaced by it, at every depth, and each other by its root. What was
 // met before is not resolved again, and what has no parts is not kept.
 #[cycle(resolve)]
+#[inline(always)]
 pub(crate) fn resolve_part<I: Interner>(
     cx: &mut I,
     inner: &InferCtxtInner<I::Key>,
