@@ -60,6 +60,7 @@ pub struct Memory<X: Eq + Hash, D> {
 }
 
 /// A part at a depth, where it has a key.
+#[inline(always)]
 pub fn place_of<X: Copy, D: Copy>(part: &Part<X, D>, depth: u128) -> Option<Place<X>>
     ensures { result ≡ the_place part.now depth }
 {

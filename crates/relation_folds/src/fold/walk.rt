@@ -20,6 +20,7 @@ use relation_terms::terms::parts::{
 use relation_terms::terms::{Interner, OutOfMemory, Part, PartOf, PartsOf};
 
 // What the folder puts for a part. It is asked about regions, types and constants, and puts nothing for all else.
+#[inline(always)]
 fn put_for<I: Interner, F: TypeFolder<I>>(
     cx: &mut I,
     part: &PartOf<I>,
@@ -53,6 +54,7 @@ fn put_for<I: Interner, F: TypeFolder<I>>(
 }
 
 /// How many binders stand around the parts of a part under `depth` binders, if there is a number for it.
+#[inline(always)]
 pub fn depth_inside<X: Copy, D: Copy>(part: &Part<X, D>, depth: u128) -> Result<u128, OutOfMemory>
     ensures { IfOk result (λ d. d ≡ inside_part part.now depth) }
 {
