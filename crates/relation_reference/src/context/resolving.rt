@@ -22,6 +22,7 @@ use std::hash::BuildHasherDefault;
 
 // The term itself, or for a type or a constant what it is resolved to shallowly. What that comes to is the form
 // over what its parts come to.
+#[inline(always)]
 fn shallow_part<I: Interner>(cx: &I, inner: &InferCtxtInner<I::Key>, term: &PartOf<I>) -> PartOf<I>
     requires lawful { IsLawful (I.meaning cx.now) inner.now }
     requires term_known { IsTrue (known (part_tree (I.meaning cx.now) term.now)) }
