@@ -50,8 +50,8 @@ returns-then-differs g c =
       alike = o.alike;
     }
 
-pub returns-else-differs : goal.returns-else-differs
-returns-else-differs g c =
+pub returns : goal.returns
+returns g c =
     let m = g.I.Interner.meaning c.args.cx.now in
     let n = g.I.Interner.meaning c.fold_members.new.cx in
     let ps = c.args.parts.now in
