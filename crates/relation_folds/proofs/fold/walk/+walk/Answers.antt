@@ -389,8 +389,11 @@ fold_members-loop-i-preserved g t' c =
             steps = steps_on s r.steps;
             remembers = remembers_as o q eq (ap (λ (v : Memory _ _). v.made) w.memory-is) r.remembers;
             made = λ h. absurd (false≢true (sym w.if-differs.false ∙ sym w.differs-is ∙ h));
-            left = λ h. (stack_as w.memory-is ∙ r.stack ∙ kept.0, left_more p d i (i + 1) ts (part_tree o x) (part_tree o y)
-                kept.1 (w.is_same.ensures.one w.if-not-is_same.false) made (stay ∙ at) next below);
+            left = λ h. (
+              stack_as w.memory-is ∙ r.stack ∙ kept.0,
+              left_more p d i (i + 1) ts (part_tree o x) (part_tree o y)
+                  kept.1 (w.is_same.ensures.one w.if-not-is_same.false) made (stay ∙ at) next below,
+            );
           }
     ]
 
