@@ -1,14 +1,17 @@
 -- The members of a list folded one after another, and a form over its folded parts.
-use Rattle.std.proofs.Common.{◌≡◌, ℕ, zero, suc, ◌<◌, refl, sym, ap, ap₂, ◌∙◌, subst, arith}
-use Rattle.std.proofs.Common.{IsTrue, List, [], ◌∷◌, ◌++◌, Option, Some, None, option_map}
+use Rattle.std.proofs.Common.{◌≡◌, ℕ, zero, suc, ◌<◌, ◌≤◌, refl, sym, ap, ap₂, ◌∙◌, subst, arith}
+use Rattle.std.proofs.Common.{IsTrue, List, [], ◌∷◌, ◌++◌, Option, length, take, drop, append-nil, append_assoc}
+use Rattle.std.proofs.Common.{length-append, drop_at, take_at}
 use Rattle.std.proofs.lemmas.Bool.{and_parts}
 use Rattle.relation_terms.specs.Trees.{Tree, leaf, node, bind, nil, cons, known, list_tree, count, nth, IsList}
 use Rattle.relation_terms.specs.Parts.{part_sort, tree_sort, parts_of, over, Fit}
 use Rattle.relation_terms.specs.declared.terms.part_kind.Part.{Part}
 use Rattle.relation_terms.proofs.Members.{known_with_last}
 use Rattle.relation_terms.proofs.Stays.{stays_list, knows_as}
-use Rattle.relation_folds.specs.Folds.{folded, folded_parts, inside, members_tree, FitMembers}
+use Rattle.relation_folds.specs.declared.fold.memory.Memory.{Memory}
+use Rattle.relation_folds.specs.Folds.{folded, folded_parts, inside}
 use Rattle.relation_folds.specs.Firsts.{AreFirsts}
+use Rattle.relation_folds.specs.Stacks.{StandsUpon}
 pub use Rattle.relation_folds.specs.Firsts.{firsts}
 
 pub firsts_all : (t : Tree) → IsList t → firsts (count t) t ≡ t
@@ -100,14 +103,6 @@ module _ {Key Id : Type 0} (p : ℕ → Tree → Option Tree) (d : ℕ) (f g : P
         fit = fit_next y i ts xs h b.fit s;
       }))
 
--- First members that are left as they are are built.
-pub built_firsts : {Key Id : Type 0} (p : ℕ → Tree → Option Tree) (d : ℕ) (f : Part Key Id → Tree) (i : ℕ) (ts u : Tree)
-    (xs : List (Part Key Id)) → AreFirsts f i u xs → u ≡ ts → folded p d (firsts i ts) ≡ firsts i ts →
-    Built p d f i ts xs
-built_firsts p d f i ts u xs a e q =
-    let b : AreFirsts f i ts xs = subst (λ w. AreFirsts f i w xs) e a in
-    record { same = b.same ∙ sym q; sure = b.sure; fit = b.fit }
-
 -- Where the first members were left as they are, and the next is too, so are all these.
 pub left_next : (p : ℕ → Tree → Option Tree) (d : ℕ) (i : ℕ) (ts : Tree) → i < count ts →
     folded p d (firsts i ts) ≡ firsts i ts → folded p d (nth i ts) ≡ nth i ts →
@@ -135,29 +130,81 @@ left_all p d i ts l e q =
     let whole : firsts i ts ≡ ts = ap (λ n. firsts n ts) e ∙ firsts_all ts l in
     sym whole ∙ sym q ∙ ap (folded p d) whole
 
--- What is said of members where there are some, and where there are none.
-module _ {Key Id V : Type 0} {o : Option V} (items : V → List (Part Key Id)) (f : Part Key Id → Tree) (ts : Tree) where
-  pub some_sure : {v : V} → o ≡ Some v → IsTrue (known (members_tree f ts (option_map items o))) →
-      IsTrue (known (list_tree f (items v)))
-  some_sure e h = subst (λ x. IsTrue (known (members_tree f ts (option_map items x)))) e h
+-- One memory has one stack.
+pub stack_as : {Key Id : Type 0} {v w : Memory Key Id} → v ≡ w → v.stack.items ≡ w.stack.items
+stack_as e = ap (λ v. v.stack.items) e
 
-  pub some_made : {v : V} {us : Tree} → o ≡ Some v → members_tree f ts (option_map items o) ≡ us →
-      list_tree f (items v) ≡ us
-  some_made {us = us} e h = subst (λ x. members_tree f ts (option_map items x) ≡ us) e h
+-- First members stand upon a stack as they are: none, and one more.
+pub upon_none : {Key Id : Type 0} (f : Part Key Id → Tree) (ts : Tree) (old : List (Part Key Id)) →
+    StandsUpon f (firsts 0 ts) (firsts 0 ts) old old
+upon_none f ts old = record { parts = []; is = sym (append-nil old); same = refl; sure = refl; fit = tt }
 
-  pub some_fits : {v : V} → o ≡ Some v → FitMembers ts (option_map items o) → Fit (items v) ts
-  some_fits e h = subst (λ x. FitMembers ts (option_map items x)) e h
+pub upon_more : {Key Id : Type 0} (f : Part Key Id → Tree) (y : Part Key Id) (i j : ℕ) (ts : Tree)
+    (old was now : List (Part Key Id)) → StandsUpon f (firsts i ts) (firsts i ts) old was → i < count ts → j ≡ suc i →
+    f y ≡ nth i ts → IsTrue (known (f y)) → part_sort y ≡ tree_sort (nth i ts) → now ≡ was ++ y ∷ [] →
+    StandsUpon f (firsts j ts) (firsts j ts) old now
+upon_more f y i j ts old was now a h e q k s r =
+    let b : AreFirsts f j ts (a.parts ++ y ∷ []) = firsts_next f y i j ts a.parts (a.parts ++ y ∷ [])
+    (record { same = a.same; sure = a.sure; fit = a.fit }) h e q k s refl in
+    record {
+      parts = a.parts ++ y ∷ [];
+      is = r ∙ ap (λ zs. zs ++ y ∷ []) a.is ∙ append_assoc old a.parts (y ∷ []);
+      same = b.same;
+      sure = b.sure;
+      fit = b.fit;
+    }
 
-  pub none_made : {us : Tree} → o ≡ None → members_tree f ts (option_map items o) ≡ us → ts ≡ us
-  none_made {us = us} e h = subst (λ x. members_tree f ts (option_map items x) ≡ us) e h
+-- First members that are left as they are stand for what is made of them.
+pub upon_firsts : {Key Id : Type 0} (p : ℕ → Tree → Option Tree) (d : ℕ) (f : Part Key Id → Tree) (i : ℕ) (ts u : Tree)
+    (old was now : List (Part Key Id)) → StandsUpon f (firsts i u) (firsts i u) was now → u ≡ ts → was ≡ old →
+    folded p d (firsts i ts) ≡ firsts i ts → StandsUpon f (firsts i ts) (folded p d (firsts i ts)) old now
+upon_firsts p d f i ts u old was now a e o q =
+    let b : StandsUpon f (firsts i ts) (firsts i ts) was now =
+    subst (λ w. StandsUpon f (firsts i w) (firsts i w) was now) e a in
+    record {
+      parts = b.parts;
+      is = b.is ∙ ap (λ zs. zs ++ b.parts) o;
+      same = b.same ∙ sym q;
+      sure = b.sure;
+      fit = b.fit;
+    }
 
--- All parts are built.
-pub built_all : {Key Id : Type 0} (p : ℕ → Tree → Option Tree) (d : ℕ) (f : Part Key Id → Tree) (i : ℕ) (ts : Tree)
-    (xs : List (Part Key Id)) → IsList ts → i ≡ count ts → Built p d f i ts xs →
-    (list_tree f xs ≡ folded p d ts) × (IsTrue (known (list_tree f xs)) × Fit xs ts)
-built_all p d f i ts xs l e b =
-    let whole : firsts i ts ≡ ts = ap (λ n. firsts n ts) e ∙ firsts_all ts l in
-    (b.same ∙ ap (folded p d) whole, (b.sure, subst (Fit xs) whole b.fit))
+-- One more that is made, in an interner that has grown.
+pub upon_next : {Key Id : Type 0} (p : ℕ → Tree → Option Tree) (d : ℕ) (f g : Part Key Id → Tree) →
+    ((x : Part Key Id) → IsTrue (known (f x)) → g x ≡ f x) → (y : Part Key Id) (i j : ℕ) (ts : Tree)
+    (old was mid now : List (Part Key Id)) → StandsUpon f (firsts i ts) (folded p d (firsts i ts)) old was →
+    mid ≡ was → now ≡ mid ++ y ∷ [] → i < count ts → j ≡ suc i → g y ≡ folded p d (nth i ts) →
+    IsTrue (known (g y)) → part_sort y ≡ tree_sort (nth i ts) →
+    StandsUpon g (firsts j ts) (folded p d (firsts j ts)) old now
+upon_next p d f g stay y i j ts old was mid now a o r h e q k s =
+    let b : Built p d g j ts (a.parts ++ y ∷ []) = built_next p d f g stay y i j ts a.parts (a.parts ++ y ∷ [])
+    (record { same = a.same; sure = a.sure; fit = a.fit }) h e q k s refl in
+    record {
+      parts = a.parts ++ y ∷ [];
+      is = r ∙ ap (λ zs. zs ++ y ∷ []) (o ∙ a.is) ∙ append_assoc old a.parts (y ∷ []);
+      same = b.same;
+      sure = b.sure;
+      fit = b.fit;
+    }
+
+-- All are made.
+pub upon_all : {Key Id : Type 0} (p : ℕ → Tree → Option Tree) (d : ℕ) (f : Part Key Id → Tree) (i : ℕ) (ts : Tree)
+    (old now : List (Part Key Id)) → IsList ts → i ≡ count ts →
+    StandsUpon f (firsts i ts) (folded p d (firsts i ts)) old now → StandsUpon f ts (folded p d ts) old now
+upon_all p d f i ts old now l e a =
+    subst (λ w. StandsUpon f w (folded p d w) old now) (ap (λ n. firsts n ts) e ∙ firsts_all ts l) a
+
+-- What stands upon a stack of so many is behind them, and they are what is left without it.
+module _ {Key Id : Type 0} (f : Part Key Id → Tree) (ts us : Tree) (old now : List (Part Key Id)) (start : ℕ)
+    (a : StandsUpon f ts us old now) (long : start ≡ length old) where
+  pub upon_top : (tops : List (Part Key Id)) → tops ≡ drop start now → tops ≡ a.parts
+  upon_top tops e = e ∙ ap (drop start) a.is ∙ drop_at old a.parts start (sym long)
+
+  pub upon_left : take start now ≡ old
+  upon_left = ap (take start) a.is ∙ take_at old a.parts start (sym long)
+
+  pub upon_below : start ≤ length now
+  upon_below = let e = ap length a.is in omega (arith, e, length-append old a.parts, long)
 
 -- A form over its folded parts.
 over_folded : (p : ℕ → Tree → Option Tree) (d : ℕ) (t : Tree) →

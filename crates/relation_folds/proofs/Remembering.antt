@@ -96,6 +96,10 @@ module _ {Key Id Name : Type 0} (m : Meaning Key Id Name) (puts : ℕ → Tree �
       one_more (eq place q) x by (get eq old q) (IsKept m puts eq q)
       (λ t. record { part = p; depth = d; place = place; stands = o; same = t; is = i }) (r q) (sym (u q) ∙ e)
 
+  pub remembers_as : {S : Type 0} (eq : Place Key → Place Key → Bool) {old new : HashMap (Place Key) (Part Key Id) S} →
+      new ≡ old → Remembers m puts eq old → Remembers m puts eq new
+  remembers_as eq e r = subst (λ made. Remembers m puts eq made) (sym e) r
+
   pub remembers_same : {S : Type 0} (eq : Place Key → Place Key → Bool) (old new : HashMap (Place Key) (Part Key Id) S) →
       ((q : Place Key) → get eq new q ≡ get eq old q) → Remembers m puts eq old → Remembers m puts eq new
   remembers_same eq old new u r = λ q x e. r q x (sym (u q) ∙ e)

@@ -1,9 +1,9 @@
 -- Folds of trees: what a folder puts for the types, regions and constants of a tree, and what comes of the whole.
-use Rattle.std.specs.Prelude.{◌≡◌, ℕ, suc, IsTrue, Bool, true, false, Option, Some, None, option_map, List}
+use Rattle.std.specs.Prelude.{◌≡◌, ℕ, suc, IsTrue, Bool, true, false, Option, Some, None, option_map}
 use Rattle.relation_terms.specs.Heads.{Sort, region_sort, type_sort, const_sort, leaf_sort, head_sort}
-use Rattle.relation_terms.specs.Trees.{Tree, leaf, node, bind, nil, cons, known, list_tree}
+use Rattle.relation_terms.specs.Trees.{Tree, leaf, node, bind, nil, cons, known}
 use Rattle.relation_terms.specs.Meaning.{Meaning, Extends}
-use Rattle.relation_terms.specs.Parts.{part_sort, part_key, part_tree, Fit}
+use Rattle.relation_terms.specs.Parts.{part_sort, part_key, part_tree}
 use Rattle.relation_terms.specs.declared.terms.part_kind.Part.{Part}
 use Rattle.relation_terms.specs.declared.terms.part_kind.Part.TheVariants.{Region, Ty, Const, ValTree, Pat, ValueType}
 use Rattle.relation_terms.specs.declared.terms.part_kind.Part.TheVariants.{Object, Binder}
@@ -74,16 +74,6 @@ abbrev pub Folds : {Key Id : Type 0} → (ℕ → Tree → Option Tree) → ℕ 
     Fold (Part Key Id) → Type 0
 Folds f depth t tree s Descend = folded f depth t ≡ folded_parts f depth t
 Folds f depth t tree s (Replace by) = (tree by ≡ folded f depth t) × (part_sort by ≡ s)
-
--- The list of the trees of members, or the given list where there are none.
-abbrev pub members_tree : {Key Id : Type 0} → (Part Key Id → Tree) → Tree → Option (List (Part Key Id)) → Tree
-members_tree tree t None = t
-members_tree tree t (Some list) = list_tree tree list
-
--- The members, where there are some, fit a list of trees.
-abbrev pub FitMembers : {Key Id : Type 0} → Tree → Option (List (Part Key Id)) → Type 0
-FitMembers t None = Unit {0}
-FitMembers t (Some list) = Fit list t
 
 -- The sort of a part that has a key, as a number.
 abbrev pub part_rank : {Key Id : Type 0} → Part Key Id → ℕ

@@ -1,6 +1,6 @@
 -- The trees of goals, and of what is recorded of regions.
 use Rattle.std.specs.Prelude.{◌≡◌, IsTrue}
-use Rattle.std.proofs.Common.{ap, ap₂, true}
+use Rattle.std.proofs.Common.{ap₂, true}
 use Rattle.std.proofs.lemmas.Bool.{and_parts}
 use Rattle.relation_terms.specs.Trees.{Tree, nil, cons, known}
 use Rattle.relation_terms.specs.Meaning.{Meaning, Extends, arg_tree}

@@ -1,8 +1,10 @@
 pub mod Faults
 pub mod Visits
 pub mod Folds
+pub mod Places
 pub mod KeyFolds
 pub mod Firsts
+pub mod Stacks
 pub mod Forms
 pub mod Clashes
 pub mod Outlines

@@ -24,6 +24,7 @@ use Rattle.variable_tables.specs.Tables.{store_of, IsLawful}
 use Rattle.relation_semantics.specs.Resolving.{IsShallow, root, stays_bound, formed, IsShallowConst, const_root, no_variable}
 use Rattle.variable_tables.proofs.Grows.{store_grows, lawful_grows}
 use Rattle.occurs_check.proofs.TermVids.{not_type, not_const}
+use Rattle.relation_folds.specs.Firsts.{AreFirsts}
 use Rattle.relation_folds.proofs.Members.{fit_next}
 use Rattle.relation_terms.proofs.Members.{known_with_last}
 use Rattle.relation_folds.proofs.Visiting.{has_sort}
@@ -142,9 +143,12 @@ pub record Done {Key Id : Type 0} (s : Assign) (f : Part Key Id → Tree) (i : �
     pub sure : IsTrue (known (list_tree f xs))
     pub fit : Fit xs (firsts i ts)
 
-pub done_none : {Key Id : Type 0} (s : Assign) (f : Part Key Id → Tree) (ts : Tree) (xs : List (Part Key Id)) → xs ≡ [] →
-    Done s f 0 ts xs
-done_none s f ts xs e = subst (Done s f 0 ts) (sym e) (record { same = refl; sure = refl; fit = tt })
+-- First parts that come to what they are have been resolved.
+pub done_firsts : {Key Id : Type 0} (s : Assign) (f : Part Key Id → Tree) (i : ℕ) (ts us : Tree)
+    (xs : List (Part Key Id)) → AreFirsts f i us xs → us ≡ ts → apply s (firsts i ts) ≡ firsts i ts → Done s f i ts xs
+done_firsts s f i ts us xs a e q =
+    let b : AreFirsts f i ts xs = subst (λ w. AreFirsts f i w xs) e a in
+    record { same = b.same ∙ sym q; sure = b.sure; fit = b.fit }
 
 -- One more, in an interner that has grown.
 module _ {Key Id : Type 0} (s : Assign) (f g : Part Key Id → Tree) (stay : (x : Part Key Id) → IsTrue (known (f x)) → g x ≡ f x)

@@ -1,25 +1,52 @@
 //! What a fold has made so far: a part that has a key is not folded again where it was met at the same depth.
 //!
 //! What has none, as a signature, is folded each time; its types and lists are kept.
-ghost use Rattle.std.specs.Prelude.{◌≡◌, IsTrue, IfSome};
+ghost use Rattle.std.specs.Prelude.{◌≡◌, ◌≤◌, [], length, drop, fold, IsTrue, IfSome};
 ghost use Rattle.std.specs.HashMap.{IsEmpty};
 ghost use Rattle.relation_terms.specs.Trees.{known};
 ghost use Rattle.relation_terms.specs.Parts.{part_tree};
 ghost use Rattle.relation_folds.specs.Folds.{IsMade, Recalls, place_of as the_place};
+ghost use Rattle.relation_folds.specs.Places.{fed_depth};
 
 use crate::fold::TypeFolder;
 use delayed_map::CACHE_CUTOFF;
+use delayed_map::widening::widen_map;
 use relation_terms::terms::{Interner, OutOfMemory, Part, PartOf};
 use std::collections::HashMap;
-use std::hash::{BuildHasherDefault, Hash};
+use std::hash::{BuildHasherDefault, Hash, Hasher};
 use term_enums::hashing::KeyHasher;
 
 /// A part at a depth: of which sort it is, its key, and how many binders stand around it.
-#[derive(Clone, Copy, PartialEq, Eq, Hash)]
+#[derive(Clone, Copy, PartialEq, Eq)]
 pub struct Place<X> {
     pub sort: u8,
     pub key: X,
     pub depth: u128,
+}
+
+// A depth of 0, at which most parts stand, is not hashed.
+#[inline(always)]
+fn hash_depth<H: Hasher>(depth: u128, state: &mut H)
+    ensures { state.new ≡ fold H.write state.old (fed_depth depth) }
+{
+    if depth != 0 {
+        depth.hash(state);
+    }
+}
+
+// The key tells most places apart, so its sort is not hashed.
+impl<X: Hash> Hash for Place<X> {
+    ghost use Rattle.relation_folds.specs.Places.{fed_place, fed_alike};
+
+    ghost hash_input = { fed_place X.hash_input };
+
+    ghost respects_eq = { λ p q h. fed_alike _ X.hash_input X.respects_eq p q h };
+
+    #[inline(always)]
+    fn hash<H: Hasher>(&self, state: &mut H) {
+        self.key.hash(state);
+        hash_depth(self.depth, state);
+    }
 }
 
 /// What a fold has made of the parts that it has met, but for those that were the first: a small fold ends before it
@@ -28,9 +55,12 @@ pub struct Place<X> {
 pub struct Memory<X: Eq + Hash, D> {
     pub made: HashMap<Place<X>, Part<X, D>, BuildHasherDefault<KeyHasher>>,
     pub let_go: u32,
+    /// The lists that are being made, each upon those that it is made for.
+    pub stack: Vec<Part<X, D>>,
 }
 
 /// A part at a depth, where it has a key.
+#[inline(always)]
 pub fn place_of<X: Copy, D: Copy>(part: &Part<X, D>, depth: u128) -> Option<Place<X>>
     ensures { result ≡ the_place part.now depth }
 {
@@ -49,17 +79,30 @@ pub fn place_of<X: Copy, D: Copy>(part: &Part<X, D>, depth: u128) -> Option<Plac
     Some(Place { sort, key, depth })
 }
 
-/// Nothing is remembered where a fold begins.
+/// Nothing is remembered where a fold begins, and no list is being made.
 pub fn nothing<I: Interner>(cx: &I) -> Memory<I::Key, I::Id>
-    ensures { IsEmpty result.made }
+    ensures made { IsEmpty result.made }
+    ensures stack { result.stack.items ≡ [] }
 {
     Memory {
         made: HashMap::with_hasher(cx.alloc(), BuildHasherDefault::new()),
         let_go: 0,
+        stack: Vec::new(cx.alloc()),
     }
 }
 
+/// What stands upon the stack from a place on.
+#[inline(always)]
+pub fn top<X: Copy + Eq + Hash, D: Copy>(memory: &Memory<X, D>, start: usize) -> &[Part<X, D>]
+    requires { start ≤ length (memory.now).stack.items }
+    ensures { result.now ≡ drop start (memory.now).stack.items }
+{
+    let (_, top) = memory.stack.as_slice().split_at(start);
+    top
+}
+
 /// What was made of the part at this depth, if it was met there before.
+#[inline(always)]
 pub fn recall<I: Interner, F: TypeFolder<I>>(
     _cx: &I,
     _folder: &F,
@@ -79,6 +122,7 @@ pub fn recall<I: Interner, F: TypeFolder<I>>(
 }
 
 /// Keeps what was made of the part at this depth, if enough were let go.
+#[inline(always)]
 pub fn keep<I: Interner, F: TypeFolder<I>>(
     _cx: &I,
     _folder: &F,
@@ -89,7 +133,8 @@ pub fn keep<I: Interner, F: TypeFolder<I>>(
 ) -> Result<(), OutOfMemory>
     requires made { IsMade (I.meaning _cx.now) (F.replaces (I.meaning _cx.now) _folder.now) part.now depth made }
     requires remembers { Recalls F.replaces I.meaning _cx.now _folder.now ⟦<Place<I::Key> as PartialEq>⟧.eq memory.old }
-    ensures { Recalls F.replaces I.meaning _cx.now _folder.now ⟦<Place<I::Key> as PartialEq>⟧.eq memory.new }
+    ensures remembers { Recalls F.replaces I.meaning _cx.now _folder.now ⟦<Place<I::Key> as PartialEq>⟧.eq memory.new }
+    ensures stack { (memory.new).stack.items ≡ (memory.old).stack.items }
 {
     if memory.let_go < CACHE_CUTOFF {
         memory.let_go += 1;
@@ -97,6 +142,7 @@ pub fn keep<I: Interner, F: TypeFolder<I>>(
     }
     if let Some(place) = place_of(part, depth) {
         memory.made.insert(place, made)?;
+        let _ = widen_map(&mut memory.made);
     }
     Ok(())
 }

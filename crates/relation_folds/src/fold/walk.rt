@@ -4,15 +4,15 @@
 //! there are different parts, and at most 32 more.
 //!
 //! The part of a binder stands one binder deeper, and all others as deep as the term that they are parts of.
-ghost use Rattle.std.specs.Prelude.{◌≡◌, ◌≤◌, IsTrue, IfOk, option_map};
+ghost use Rattle.std.specs.Prelude.{◌≡◌, ◌≤◌, IsTrue, IfOk, OnOk};
 ghost use Rattle.relation_terms.specs.Trees.{known, count};
 ghost use Rattle.relation_terms.specs.Parts.{part_tree, parts_tree, part_sort, Alike};
-ghost use Rattle.relation_folds.specs.Folds.{Steps, folded, KnownAnswer, Folds, members_tree, FitMembers, inside_part};
-ghost use Rattle.relation_folds.specs.Folds.{Remembers};
-ghost use Rattle.relation_folds.specs.Firsts.{AreFirsts};
+ghost use Rattle.relation_folds.specs.Folds.{Steps, folded, KnownAnswer, Folds, inside_part, Remembers};
+ghost use Rattle.relation_folds.specs.Firsts.{AreFirsts, firsts};
+ghost use Rattle.relation_folds.specs.Stacks.{StandsUpon, Become};
 ghost use Rattle.relation_folds.specs.KeyFolds.{FoldsPart, FoldsPartsOf, FoldsList};
 
-use crate::fold::memory::{Memory, Place, keep, nothing, recall};
+use crate::fold::memory::{Memory, Place, keep, nothing, recall, top};
 use crate::fold::{Fold, TypeFolder};
 use relation_terms::terms::parts::{
     is_same, make_parts, member, member_count, parts_of, with_parts,
@@ -20,6 +20,7 @@ use relation_terms::terms::parts::{
 use relation_terms::terms::{Interner, OutOfMemory, Part, PartOf, PartsOf};
 
 // What the folder puts for a part. It is asked about regions, types and constants, and puts nothing for all else.
+#[inline(always)]
 fn put_for<I: Interner, F: TypeFolder<I>>(
     cx: &mut I,
     part: &PartOf<I>,
@@ -53,6 +54,7 @@ fn put_for<I: Interner, F: TypeFolder<I>>(
 }
 
 /// How many binders stand around the parts of a part under `depth` binders, if there is a number for it.
+#[inline(always)]
 pub fn depth_inside<X: Copy, D: Copy>(part: &Part<X, D>, depth: u128) -> Result<u128, OutOfMemory>
     ensures { IfOk result (λ d. d ≡ inside_part part.now depth) }
 {
@@ -86,8 +88,28 @@ pub fn first_members<I: Interner>(
     Ok(list)
 }
 
+// Puts the first members of a list of parts upon the lists that are being made, so many.
+#[inline(never)]
+fn push_firsts<I: Interner>(
+    cx: &I,
+    stack: &mut Vec<PartOf<I>>,
+    parts: &PartsOf<I>,
+    amount: usize,
+) -> Result<(), OutOfMemory>
+    requires list_known { IsTrue (known (parts_tree (I.meaning cx.now) parts.now)) }
+    requires in_bounds { amount ≤ count (parts_tree (I.meaning cx.now) parts.now) }
+    ensures { let ts = firsts amount (parts_tree (I.meaning cx.now) parts.now) in
+        OnOk result (StandsUpon (part_tree (I.meaning cx.now)) ts ts stack.old.items stack.new.items) }
+{
+    for at in 0..amount {
+        stack.push(member(cx, parts, at))?;
+    }
+    Ok(())
+}
+
 // What the folder makes of a part that stands under `depth` binders: what it made before, where it has met it there.
 #[cycle(walk)]
+#[inline(always)]
 fn fold_met<I: Interner, F: TypeFolder<I>>(
     cx: &mut I,
     part: &PartOf<I>,
@@ -102,6 +124,7 @@ fn fold_met<I: Interner, F: TypeFolder<I>>(
     ensures steps { Steps F.ready F.replaces (I.meaning cx.old) folder.old (I.meaning cx.new) folder.new }
     ensures remembers { Remembers (I.meaning cx.new) (F.replaces (I.meaning cx.new) folder.new)
         ⟦<Place<I::Key> as PartialEq>⟧.eq (memory.new).made }
+    ensures stack { OnOk result ((memory.new).stack.items ≡ (memory.old).stack.items) }
     ensures sure { IfOk result (λ k. IsTrue (known (part_tree (I.meaning cx.new) k))) }
     ensures made { FoldsPart F.replaces (I.meaning cx.old) folder.old (I.meaning cx.new) depth part.now result }
     ensures sort { IfOk result (λ k. part_sort k ≡ part_sort part.now) }
@@ -116,6 +139,7 @@ fn fold_met<I: Interner, F: TypeFolder<I>>(
 
 // The same of a part that it meets for the first time: what it puts for it, or else the part with its own parts folded.
 #[cycle(walk)]
+#[inline(always)]
 fn fold_new<I: Interner, F: TypeFolder<I>>(
     cx: &mut I,
     part: &PartOf<I>,
@@ -130,6 +154,7 @@ fn fold_new<I: Interner, F: TypeFolder<I>>(
     ensures steps { Steps F.ready F.replaces (I.meaning cx.old) folder.old (I.meaning cx.new) folder.new }
     ensures remembers { Remembers (I.meaning cx.new) (F.replaces (I.meaning cx.new) folder.new)
         ⟦<Place<I::Key> as PartialEq>⟧.eq (memory.new).made }
+    ensures stack { OnOk result ((memory.new).stack.items ≡ (memory.old).stack.items) }
     ensures sure { IfOk result (λ k. IsTrue (known (part_tree (I.meaning cx.new) k))) }
     ensures made { FoldsPart F.replaces (I.meaning cx.old) folder.old (I.meaning cx.new) depth part.now result }
     ensures sort { IfOk result (λ k. part_sort k ≡ part_sort part.now) }
@@ -142,6 +167,7 @@ fn fold_new<I: Interner, F: TypeFolder<I>>(
 
 // The part with its own parts folded, whatever the folder puts for it. Where they are what they were, so is the part.
 #[cycle(walk)]
+#[inline(always)]
 fn fold_inside<I: Interner, F: TypeFolder<I>>(
     cx: &mut I,
     part: &PartOf<I>,
@@ -156,18 +182,25 @@ fn fold_inside<I: Interner, F: TypeFolder<I>>(
     ensures steps { Steps F.ready F.replaces (I.meaning cx.old) folder.old (I.meaning cx.new) folder.new }
     ensures remembers { Remembers (I.meaning cx.new) (F.replaces (I.meaning cx.new) folder.new)
         ⟦<Place<I::Key> as PartialEq>⟧.eq (memory.new).made }
+    ensures stack { OnOk result ((memory.new).stack.items ≡ (memory.old).stack.items) }
     ensures sure { IfOk result (λ k. IsTrue (known (part_tree (I.meaning cx.new) k))) }
     ensures made { FoldsPartsOf F.replaces (I.meaning cx.old) folder.old (I.meaning cx.new) depth part.now result }
     ensures sort { IfOk result (λ k. part_sort k ≡ part_sort part.now) }
 {
     let inside = depth_inside(part, depth)?;
-    match fold_members(cx, &parts_of(cx, part), inside, folder, memory)? {
-        Some(made) => with_parts(cx, part, &made),
-        None => Ok(*part),
+    let start = memory.stack.len();
+    let differs = fold_members(cx, &parts_of(cx, part), inside, folder, memory)?;
+    if differs {
+        let whole = with_parts(cx, part, top(memory, start));
+        memory.stack.truncate(start);
+        whole
+    } else {
+        Ok(*part)
     }
 }
 
-// The members of a list, each folded, or none where all are what they were.
+// The members of a list, each folded, upon the lists that are being made, or nothing where all are what they were.
+// Answers whether one differs.
 #[cycle(walk)]
 fn fold_members<I: Interner, F: TypeFolder<I>>(
     cx: &mut I,
@@ -175,7 +208,7 @@ fn fold_members<I: Interner, F: TypeFolder<I>>(
     depth: u128,
     folder: &mut F,
     memory: &mut Memory<I::Key, I::Id>,
-) -> Result<Option<Vec<PartOf<I>>>, OutOfMemory>
+) -> Result<bool, OutOfMemory>
     requires known { IsTrue (known (parts_tree (I.meaning cx.old) parts.now)) }
     requires ready { F.ready (I.meaning cx.old) folder.old }
     requires remembers { Remembers (I.meaning cx.old) (F.replaces (I.meaning cx.old) folder.old)
@@ -183,28 +216,23 @@ fn fold_members<I: Interner, F: TypeFolder<I>>(
     ensures steps { Steps F.ready F.replaces (I.meaning cx.old) folder.old (I.meaning cx.new) folder.new }
     ensures remembers { Remembers (I.meaning cx.new) (F.replaces (I.meaning cx.new) folder.new)
         ⟦<Place<I::Key> as PartialEq>⟧.eq (memory.new).made }
-    ensures sure { IfOk result (λ r. IsTrue (known (members_tree (part_tree (I.meaning cx.new))
-        (parts_tree (I.meaning cx.old) parts.now) (option_map (λ list. list.items) r)))) }
-    ensures made { IfOk result (λ r. members_tree (part_tree (I.meaning cx.new))
-        (parts_tree (I.meaning cx.old) parts.now) (option_map (λ list. list.items) r) ≡
-        folded (F.replaces (I.meaning cx.old) folder.old) depth (parts_tree (I.meaning cx.old) parts.now)) }
-    ensures fits { IfOk result (λ r.
-        FitMembers (parts_tree (I.meaning cx.old) parts.now) (option_map (λ list. list.items) r)) }
+    ensures members { let ts = parts_tree (I.meaning cx.old) parts.now in IfOk result (λ differs.
+        Become (part_tree (I.meaning cx.new)) ts (folded (F.replaces (I.meaning cx.old) folder.old) depth ts)
+        (memory.old).stack.items (memory.new).stack.items differs) }
 {
-    let mut made = Vec::new(cx.alloc());
     let mut differs = false;
     for i in 0..member_count(cx, parts) {
         let old = member(cx, parts, i);
         let new = fold_met(cx, &old, depth, folder, memory)?;
         if differs {
-            made.push(new)?;
+            memory.stack.push(new)?;
         } else if !is_same(cx, &new, &old) {
-            made = first_members(cx, parts, i)?;
-            made.push(new)?;
+            push_firsts(cx, &mut memory.stack, parts, i)?;
+            memory.stack.push(new)?;
             differs = true;
         }
     }
-    if differs { Ok(Some(made)) } else { Ok(None) }
+    Ok(differs)
 }
 
 // What the folder makes of a part that stands under `depth` binders.
@@ -241,27 +269,6 @@ pub fn fold_parts<I: Interner, F: TypeFolder<I>>(
     fold_inside(cx, part, depth, folder, &mut nothing(cx))
 }
 
-// The members of a list, each folded, or none where all are what they were.
-fn fold_all<I: Interner, F: TypeFolder<I>>(
-    cx: &mut I,
-    parts: &PartsOf<I>,
-    depth: u128,
-    folder: &mut F,
-) -> Result<Option<Vec<PartOf<I>>>, OutOfMemory>
-    requires known { IsTrue (known (parts_tree (I.meaning cx.old) parts.now)) }
-    requires ready { F.ready (I.meaning cx.old) folder.old }
-    ensures steps { Steps F.ready F.replaces (I.meaning cx.old) folder.old (I.meaning cx.new) folder.new }
-    ensures sure { IfOk result (λ r. IsTrue (known (members_tree (part_tree (I.meaning cx.new))
-        (parts_tree (I.meaning cx.old) parts.now) (option_map (λ list. list.items) r)))) }
-    ensures made { IfOk result (λ r. members_tree (part_tree (I.meaning cx.new))
-        (parts_tree (I.meaning cx.old) parts.now) (option_map (λ list. list.items) r) ≡
-        folded (F.replaces (I.meaning cx.old) folder.old) depth (parts_tree (I.meaning cx.old) parts.now)) }
-    ensures fits { IfOk result (λ r.
-        FitMembers (parts_tree (I.meaning cx.old) parts.now) (option_map (λ list. list.items) r)) }
-{
-    fold_members(cx, parts, depth, folder, &mut nothing(cx))
-}
-
 // The list with each member folded. Where they are what they were, so is the list.
 pub fn fold_list<I: Interner, F: TypeFolder<I>>(
     cx: &mut I,
@@ -276,8 +283,11 @@ pub fn fold_list<I: Interner, F: TypeFolder<I>>(
     ensures made { FoldsList F.replaces (I.meaning cx.old) folder.old (I.meaning cx.new) depth parts.now result }
     ensures alike { IfOk result (λ ps. Alike parts.now ps) }
 {
-    match fold_all(cx, parts, depth, folder)? {
-        Some(made) => make_parts(cx, parts, &made),
-        None => Ok(*parts),
+    let mut memory = nothing(cx);
+    let differs = fold_members(cx, parts, depth, folder, &mut memory)?;
+    if differs {
+        make_parts(cx, parts, memory.stack.as_slice())
+    } else {
+        Ok(*parts)
     }
 }

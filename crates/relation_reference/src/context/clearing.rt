@@ -23,6 +23,7 @@ use term_enums::hashing::KeyHasher;
 pub type ClearTypes<X> = HashSet<TyKey<X>, BuildHasherDefault<KeyHasher>>;
 
 // Whether a term is an alias type, where aliases are left to goals.
+#[inline(always)]
 fn is_left_alias<I: Interner>(cx: &I, term: &PartOf<I>, aliases: StructurallyRelateAliases) -> bool
     requires { IsTrue (known (part_tree (I.meaning cx.now) term.now)) }
     ensures is { IsTrue result → IsLeftAlias aliases (part_tree (I.meaning cx.now) term.now) }
@@ -38,6 +39,7 @@ fn is_left_alias<I: Interner>(cx: &I, term: &PartOf<I>, aliases: StructurallyRel
 }
 
 // Whether the parts of a term stand inside an alias that is left to a goal, the term doing so or not.
+#[inline(always)]
 pub(crate) fn parts_inside<I: Interner>(
     cx: &I,
     term: &PartOf<I>,
@@ -173,6 +175,7 @@ impl<I: Interner> RefCtxt<I> {
 
     // Whether a term is an alias that gives way: it is left to a goal and stands in no other, and an obstacle stands in
     // it. Else it may be gone into.
+    #[inline(always)]
     pub(crate) fn alias_gives_way(
         &self,
         term: &PartOf<I>,

@@ -22,10 +22,12 @@ ghost use Rattle.occurs_check.specs.declared.fates.Fate.TheVariants.{ByParts};
 use crate::context::RefCtxt;
 use crate::context::clearing::{ClearTypes, parts_inside};
 use crate::context::varying::variance_of;
+use delayed_map::widening::widen_map;
 use occurs_check::fates::{Fate, TargetOf, fate_of};
 use occurs_check::term_vid::{TermVid, variable_of};
 use relation_folds::error::{RelateFault, RelateFaultOf, TypeError};
-use relation_terms::terms::parts::{is_same, part, parts_count, the_ty, with_parts};
+use relation_folds::fold::first_members;
+use relation_terms::terms::parts::{is_same, member, member_count, parts_of, the_ty, with_parts};
 use relation_terms::terms::{
     Interner, OutOfMemory, Part, PartOf, Ty, TyKey, TyVid, UniverseIndex, Variance,
 };
@@ -35,9 +37,13 @@ use term_enums::hashing::KeyHasher;
 
 /// A type as it is looked for: whether it stands inside an alias that is left to a goal, the variance at which it
 /// stands, and its key.
-#[derive(Clone, Copy, PartialEq, Eq, Hash)]
+#[derive(Clone, Copy, PartialEq, Eq)]
+#[derive_where(Hash; X)]
 pub struct MetKey<X> {
+    // Its key alone is hashed: it tells most types apart.
+    #[derive_where(skip(Hash))]
     pub inside: bool,
+    #[derive_where(skip(Hash))]
     pub variance: Variance,
     pub ty: TyKey<X>,
 }
@@ -46,6 +52,7 @@ pub struct MetKey<X> {
 pub type MetTypes<X> = HashMap<MetKey<X>, TyKey<X>, BuildHasherDefault<KeyHasher>>;
 
 // What the type became at the variance on the side, if it was met before.
+#[inline(always)]
 fn recall_type<I: Interner>(
     _cx: &I,
     ty: &Ty<I>,
@@ -72,6 +79,7 @@ fn recall_type<I: Interner>(
 }
 
 // Keeps what the type became at the variance on the side.
+#[inline(always)]
 fn keep_type<I: Interner>(
     _cx: &I,
     ty: &Ty<I>,
@@ -96,6 +104,7 @@ fn keep_type<I: Interner>(
         ty: *ty,
     };
     met.insert(key, became)?;
+    let _ = widen_map(met);
     Ok(())
 }
 
@@ -167,6 +176,7 @@ impl<I: Interner> RefCtxt<I> {
     // The term as a target is bound to it, on a side of aliases at a variance. A type that was met before becomes what
     // it became then.
     #[cycle(generalise)]
+    #[inline(always)]
     fn generalise_part(
         &mut self,
         term: &PartOf<I>,
@@ -237,6 +247,7 @@ impl<I: Interner> RefCtxt<I> {
 
     // The same of a term that stays as a form. Where its parts become what they are, nothing is made.
     #[cycle(generalise)]
+    #[inline(always)]
     fn generalise_parts(
         &mut self,
         term: &PartOf<I>,
@@ -264,19 +275,26 @@ impl<I: Interner> RefCtxt<I> {
             term.now result }
     {
         let within = parts_inside(&self.interner, term, inside, target.aliases);
+        let old = parts_of(&self.interner, term);
         let mut parts = Vec::new(self.interner.alloc());
-        let mut same = true;
-        for i in 0..parts_count(&self.interner, term) {
-            let next = part(&self.interner, term, i);
+        let mut differs = false;
+        for i in 0..member_count(&self.interner, &old) {
+            let next = member(&self.interner, &old, i);
             let at = variance_of(&self.interner, term, i, variance);
             let became = self.generalise_part(&next, within, at, target, met, clear)?;
-            same &= is_same(&self.interner, &became, &next);
-            parts.push(became)?;
+            if differs {
+                parts.push(became)?;
+            } else if !is_same(&self.interner, &became, &next) {
+                parts = first_members(&self.interner, &old, i)?;
+                parts.push(became)?;
+                differs = true;
+            }
         }
-        if same {
-            return Ok(*term);
+        if differs {
+            Ok(with_parts(&mut self.interner, term, parts.as_slice())?)
+        } else {
+            Ok(*term)
         }
-        Ok(with_parts(&mut self.interner, term, parts.as_slice())?)
     }
 
     // What a target is bound to for its source, at a variance. The source is what it comes to.

@@ -5,6 +5,7 @@ ghost use Rattle.relation_terms.specs.Parts.{part_tree};
 ghost use Rattle.variable_tables.specs.Tables.{store_of};
 ghost use Rattle.relation_reference.specs.Remembering.{ResolvesTo, key_of as the_key, Caches};
 
+use delayed_map::widening::widen_map;
 use relation_terms::terms::{Interner, OutOfMemory, Part, PartOf};
 use std::collections::HashMap;
 use std::hash::BuildHasherDefault;
@@ -12,8 +13,11 @@ use term_enums::hashing::KeyHasher;
 use variable_tables::InferCtxtInner;
 
 /// A part as it is looked for: of which sort it is, and its key.
-#[derive(Clone, Copy, PartialEq, Eq, Hash)]
+#[derive(Clone, Copy, PartialEq, Eq)]
+#[derive_where(Hash; X)]
 pub struct PartKey<X> {
+    // Its key alone is hashed: it tells most parts apart.
+    #[derive_where(skip(Hash))]
     pub sort: u8,
     pub key: X,
 }
@@ -41,6 +45,7 @@ fn key_of<X: Copy, D: Copy>(part: &Part<X, D>) -> Option<PartKey<X>>
 }
 
 // What the part was resolved to, if it was met before. `inner` is what the parts were resolved by.
+#[inline(always)]
 pub(crate) fn recall_resolved<I: Interner>(
     _cx: &I,
     _inner: &InferCtxtInner<I::Key>,
@@ -56,6 +61,7 @@ pub(crate) fn recall_resolved<I: Interner>(
 }
 
 // Keeps what the part was resolved to.
+#[inline(always)]
 pub(crate) fn keep_resolved<I: Interner>(
     _cx: &I,
     _inner: &InferCtxtInner<I::Key>,
@@ -69,6 +75,7 @@ pub(crate) fn keep_resolved<I: Interner>(
 {
     if let Some(key) = key_of(part) {
         memory.insert(key, resolved)?;
+        let _ = widen_map(memory);
     }
     Ok(())
 }

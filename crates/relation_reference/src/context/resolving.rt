@@ -2,7 +2,7 @@
 ghost use Rattle.std.specs.Prelude.{◌≡◌, IsTrue, IfOk, OnOk};
 ghost use Rattle.relation_terms.specs.Trees.{known};
 ghost use Rattle.relation_terms.specs.Meaning.{Extends};
-ghost use Rattle.relation_terms.specs.Parts.{part_tree, part_sort, parts_of, over};
+ghost use Rattle.relation_terms.specs.Parts.{part_tree, parts_tree, part_sort, parts_of, over};
 ghost use Rattle.relation_semantics.specs.Stores.{InContext};
 ghost use Rattle.variable_tables.specs.Tables.{store_of, IsLawful};
 ghost use Rattle.relation_reference.specs.RefCtxt.{store_in, const_term};
@@ -12,13 +12,17 @@ ghost use Rattle.relation_reference.specs.Changes.{IsResolved};
 use crate::context::memory::{PartKey, Resolutions, keep_resolved, recall_resolved};
 use crate::context::shallow::{shallow_resolve, shallow_resolve_const};
 use crate::context::{InferCtxtInner, RefCtxt};
-use relation_terms::terms::parts::{is_same, part, parts_count, the_const, the_ty, with_parts};
-use relation_terms::terms::{Const, Interner, OutOfMemory, Part, PartOf, Ty};
+use relation_folds::fold::first_members;
+use relation_terms::terms::parts::{
+    is_same, member, member_count, parts_of, the_const, the_ty, with_parts,
+};
+use relation_terms::terms::{Const, Interner, OutOfMemory, Part, PartOf, Parts, PartsOf, Ty};
 use std::collections::HashMap;
 use std::hash::BuildHasherDefault;
 
 // The term itself, or for a type or a constant what it is resolved to shallowly. What that comes to is the form
 // over what its parts come to.
+#[inline(always)]
 fn shallow_part<I: Interner>(cx: &I, inner: &InferCtxtInner<I::Key>, term: &PartOf<I>) -> PartOf<I>
     requires lawful { IsLawful (I.meaning cx.now) inner.now }
     requires term_known { IsTrue (known (part_tree (I.meaning cx.now) term.now)) }
@@ -40,8 +44,9 @@ fn shallow_part<I: Interner>(cx: &I, inner: &InferCtxtInner<I::Key>, term: &Part
 }
 
 // The term with each variable that has a term replaced by it, at every depth, and each other by its root. What was
-// met before is not resolved again.
+// met before is not resolved again, and what has no parts is not kept.
 #[cycle(resolve)]
+#[inline(always)]
 pub(crate) fn resolve_part<I: Interner>(
     cx: &mut I,
     inner: &InferCtxtInner<I::Key>,
@@ -59,23 +64,30 @@ pub(crate) fn resolve_part<I: Interner>(
     ensures resolves { IfOk result (λ t. IsResolvedPart I.meaning cx.old cx.new inner.now term.now t) }
 {
     let shallow = shallow_part(&*cx, inner, term);
+    let parts = parts_of(&*cx, &shallow);
+    if let Parts::Empty = parts {
+        return Ok(shallow);
+    }
     if let Some(resolved) = recall_resolved(&*cx, inner, &shallow, memory) {
         return Ok(resolved);
     }
-    let resolved = resolve_inside(cx, inner, &shallow, memory)?;
+    let resolved = resolve_inside(cx, inner, &shallow, &parts, memory)?;
     keep_resolved(&*cx, inner, &shallow, resolved, memory)?;
     Ok(resolved)
 }
 
-// The same of a term that comes to the form over what its parts come to. Where they come to what they are,
+// The same of a term that comes to the form over what its parts, `own`, come to. Where they come to what they are,
 // nothing is made.
 #[cycle(resolve)]
 fn resolve_inside<I: Interner>(
     cx: &mut I,
     inner: &InferCtxtInner<I::Key>,
     term: &PartOf<I>,
+    own: &PartsOf<I>,
     memory: &mut Resolutions<I::Key, I::Id>,
 ) -> Result<PartOf<I>, OutOfMemory>
+    requires parts_known { IsTrue (known (parts_tree (I.meaning cx.old) own.now)) }
+    requires parts { let m = I.meaning cx.old in parts_tree m own.now ≡ parts_of (part_tree m term.now) }
     requires lawful { IsLawful (I.meaning cx.old) inner.now }
     requires remembers { Caches I.meaning cx.old inner.now ⟦<PartKey<I::Key> as PartialEq>⟧.eq memory.old }
     requires term_known { IsTrue (known (part_tree (I.meaning cx.old) term.now)) }
@@ -89,17 +101,23 @@ fn resolve_inside<I: Interner>(
     ensures resolves { IfOk result (λ t. IsResolvedPart I.meaning cx.old cx.new inner.now term.now t) }
 {
     let mut parts = Vec::new(cx.alloc());
-    let mut same = true;
-    for i in 0..parts_count(&*cx, term) {
-        let next = part(&*cx, term, i);
+    let mut differs = false;
+    for i in 0..member_count(&*cx, own) {
+        let next = member(&*cx, own, i);
         let resolved = resolve_part(cx, inner, &next, memory)?;
-        same &= is_same(&*cx, &resolved, &next);
-        parts.push(resolved)?;
+        if differs {
+            parts.push(resolved)?;
+        } else if !is_same(&*cx, &resolved, &next) {
+            parts = first_members(&*cx, own, i)?;
+            parts.push(resolved)?;
+            differs = true;
+        }
     }
-    if same {
-        return Ok(*term);
+    if differs {
+        with_parts(cx, term, parts.as_slice())
+    } else {
+        Ok(*term)
     }
-    with_parts(cx, term, parts.as_slice())
 }
 
 impl<I: Interner> RefCtxt<I> {

@@ -13,6 +13,7 @@ use relation_terms::terms::{
 };
 
 // How the part of a type at a place varies with the type.
+#[inline(always)]
 fn mode_in_ty<I: Interner>(cx: &I, ty: &Ty<I>, i: usize) -> Variance
     requires ty_known { IsTrue (known ((I.meaning cx.now).ty ty.now)) }
     requires in_bounds { i < count (parts_of ((I.meaning cx.now).ty ty.now)) }
@@ -52,6 +53,7 @@ fn mode_in_const<I: Interner>(cx: &I, constant: &Const<I>) -> Variance
 }
 
 // The variance of the part of a term at a place, the term being at a variance. The type of a value is never related.
+#[inline(always)]
 pub(crate) fn variance_of<I: Interner>(
     cx: &I,
     term: &PartOf<I>,

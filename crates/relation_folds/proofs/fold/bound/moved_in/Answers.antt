@@ -1,4 +1,4 @@
-use Rattle.std.proofs.Common.{◌≡◌, ◌∙◌, sym, ap}
+use Rattle.std.proofs.Common.{◌∙◌, sym, ap}
 use Rattle.relation_terms.proofs.Stays.{stays_same}
 use Rattle.relation_folds.specs.Folds.{folded}
 use Rattle.relation_folds.specs.Shifts.{moves}

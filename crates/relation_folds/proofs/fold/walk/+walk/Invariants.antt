@@ -2,7 +2,8 @@ use Rattle.std.proofs.Common.{◌≡◌, ◌+◌, ◌*◌, true, false}
 use Rattle.relation_terms.specs.Trees.{size}
 use Rattle.relation_terms.specs.Parts.{part_tree, parts_tree}
 use Rattle.relation_folds.specs.Folds.{Steps, folded, Remembers}
-use Rattle.relation_folds.proofs.Members.{Built, firsts}
+use Rattle.relation_folds.specs.Firsts.{firsts}
+use Rattle.relation_folds.specs.Stacks.{StandsUpon}
 use Rattle.relation_folds.proofs.Remembering.{place_eq}
 use Rattle.relation_folds.proofs.fold.walk.+walk.Given as goal
 
@@ -27,6 +28,8 @@ invariant-fold_members-loop-i g l =
           (g.I.Interner.meaning l.cx) l.folder;
       remembers : Remembers (g.I.Interner.meaning l.cx) (g.F.TypeFolder.replaces (g.I.Interner.meaning l.cx) l.folder)
           (place_eq g.I.Key.PartialEq.eq) l.memory.made;
-      built : l.differs ≡ true → Built p l.depth (part_tree (g.I.Interner.meaning l.cx)) l.i ts l.made.items;
-      left : l.differs ≡ false → folded p l.depth (firsts l.i ts) ≡ firsts l.i ts;
+      made : l.differs ≡ true → StandsUpon (part_tree (g.I.Interner.meaning l.cx)) (firsts l.i ts)
+          (folded p l.depth (firsts l.i ts)) l.fn.memory.stack.items l.memory.stack.items;
+      left : l.differs ≡ false → (l.memory.stack.items ≡ l.fn.memory.stack.items) ×
+          (folded p l.depth (firsts l.i ts) ≡ firsts l.i ts);
     }

@@ -8,5 +8,5 @@ fold_new-requires g c =
       known = c.requires.known;
       ready = c.requires.ready;
       remembers = remembers_none m (g.F.TypeFolder.replaces m c.args.folder.now) (place_eq g.I.Key.PartialEq.eq)
-          c.nothing.result.made c.nothing.ensures;
+          c.nothing.result.made c.nothing.ensures.made;
     }

@@ -1,4 +1,4 @@
-use Rattle.std.proofs.Common.{◌≡◌, ◌+◌, ◌*◌, IsTrue}
+use Rattle.std.proofs.Common.{◌≡◌, ◌+◌, ◌*◌, true, false}
 use Rattle.relation_terms.specs.Trees.{apply}
 use Rattle.relation_semantics.proofs.Lists.{firsts}
 use Rattle.relation_terms.specs.Meaning.{Extends}
@@ -27,8 +27,8 @@ invariant-resolve_inside-loop-i g l =
     record {
       grown : Extends m n;
       remembers : Remembers n (store_of n l.inner) (key_eq g.I.Key.PartialEq.eq) l.memory;
-      done : Done (resolved (store_of m l.inner)) (part_tree n) l.i (parts_of (part_tree m l.term))
-          l.parts.items;
-      unchanged : IsTrue l.same → apply (resolved (store_of m l.inner))
+      done : l.differs ≡ true →
+          Done (resolved (store_of m l.inner)) (part_tree n) l.i (parts_of (part_tree m l.term)) l.parts.items;
+      unchanged : l.differs ≡ false → apply (resolved (store_of m l.inner))
           (firsts l.i (parts_of (part_tree m l.term))) ≡ firsts l.i (parts_of (part_tree m l.term));
     }

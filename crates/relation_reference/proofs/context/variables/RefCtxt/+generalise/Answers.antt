@@ -1,11 +1,12 @@
-use Rattle.std.proofs.Common.{rules, arith, refl, sym, ap, ap₂, ◌∙◌, Err, ◌≡◌, ◌<◌, ◌≤◌, ◌+◌, ◌*◌, suc, subst, subst₂, IsTrue}
-use Rattle.std.proofs.lemmas.Bool.{and_parts}
+use Rattle.std.proofs.Common.{rules, arith, refl, sym, ap, ap₂, ◌∙◌, Err, ◌≡◌, ◌<◌, ◌≤◌, ◌+◌, ◌*◌, suc, subst, IsTrue}
+use Rattle.std.proofs.Common.{cond}
+use Rattle.std.proofs.lemmas.Bool.{false≢true}
 use Rattle.relation_terms.specs.Heads.{type_var}
-use Rattle.relation_terms.specs.Trees.{leaf, size, known, count, nth, list_tree}
-use Rattle.relation_terms.specs.Parts.{part_tree, part_sort, parts_of, tree_sort, over, Fit}
+use Rattle.relation_terms.specs.Trees.{leaf, nil, size, known, count, nth, list_tree, IsList}
+use Rattle.relation_terms.specs.Parts.{part_tree, parts_tree, part_sort, parts_of, tree_sort, over, Fit}
 use Rattle.relation_terms.proofs.Stays.{knows_as, extends_on, stays_same, stays_list}
 use Rattle.relation_terms.specs.Interning.{Sorted}
-use Rattle.relation_terms.proofs.Parts.{sort_known, stays_part}
+use Rattle.relation_terms.proofs.Parts.{sort_known, stays_part, stays_parts}
 use Rattle.relation_terms.specs.declared.terms.part_kind.Part.TheVariants.{Ty}
 use Rattle.relation_semantics.specs.Lawful.{items_of}
 use Rattle.relation_semantics.proofs.Passing.{as_err}
@@ -13,7 +14,7 @@ use Rattle.relation_semantics.specs.Stores.{InContext}
 use Rattle.relation_semantics.specs.Generalising.{any_part, new_part, variance_of_part, MakesUnbound, makes_none, makes_one}
 use Rattle.relation_semantics.proofs.Generalising.{gives_no_number}
 use Rattle.relation_semantics.proofs.NewVariables.{adds, makes_then}
-use Rattle.relation_semantics.proofs.Lists.{firsts, firsts_more, firsts_all, snoc, list_push}
+use Rattle.relation_semantics.proofs.Lists.{firsts, firsts_all}
 use Rattle.variable_tables.specs.Tables.{store_of}
 use Rattle.occurs_check.specs.TermVids.{vid_kind, vid_number}
 use Rattle.relation_reference.proofs.Recalling.{met_eq, sure_grows}
@@ -28,8 +29,10 @@ use Rattle.relation_reference.proofs.Marking.{gives_type, marks_grow}
 use Rattle.relation_reference.proofs.Outside.{part_smaller}
 use Rattle.relation_reference.proofs.Generalising.{memory_answers, stops_cycle, stops_beyond, gives_answers, generalises_no_type, not_type_sort, went_none, went_next, went_stops, went_whole, made_context, recalled_answers, met_answers, fails_any, fails_on, becomes_grows, alias_answers, none_kept}
 use Rattle.relation_reference.proofs.context.variables.RefCtxt.+generalise.Goals as goal
-use Rattle.relation_terms.proofs.Members.{known_with_last}
-use Rattle.relation_folds.proofs.Members.{fit_next}
+use Rattle.relation_reference.proofs.context.variables.RefCtxt.+generalise.Goals.{generalise_parts-then-differs+in_ok-push}
+use Rattle.relation_reference.proofs.context.variables.RefCtxt.+generalise.Goals.{generalise_parts-else-differs+else-not-is_same}
+use Rattle.relation_reference.proofs.context.variables.RefCtxt.+generalise.Goals.{generalise_parts-else-differs+then-not-is_same+in_ok-parts+in_ok-push-2}
+use Rattle.relation_reference.proofs.Becoming.{pushed_kept, pushed_tree, same_tree}
 use Rattle.relation_folds.proofs.Visiting.{has_sort}
 
 pub generalise_new-next_for-requires-clause-has : goal.generalise_new-next_for-requires-clause-has
@@ -355,7 +358,6 @@ generalise_parts-loop-i-init g t' c =
     let p = c.args.term.now in
     let t = part_tree m p in
     let v = c.args.variance in
-    let empty = c.new-parts.ensures.items in
     record {
       lawful = c.requires.lawful;
       grown = stays_same m;
@@ -364,61 +366,27 @@ generalise_parts-loop-i-init g t' c =
       rest = λ s made marks inner. marks;
       all = c.requires.sure;
       found = c.requires.clear;
-      sure = subst (λ xs. IsTrue (known (list_tree (part_tree m) xs))) (sym empty) refl;
-      fit = subst (λ xs. Fit xs (firsts 0 (parts_of t))) (sym empty) tt;
-      went = went_none eq m was al k i u sd v c.args.met.now t (list_tree (part_tree m) c.new-parts.result.items)
-          (ap (list_tree (part_tree m)) empty);
-      unchanged = λ h. ap (list_tree (part_tree m)) empty;
+      kept = λ h. absurd (false≢true h);
+      went = went_none eq m was al k i u sd v c.args.met.now t nil refl;
     }
 
-pub generalise_parts-part-next-requires-clause-term_known : goal.generalise_parts-part-next-requires-clause-term_known
-generalise_parts-part-next-requires-clause-term_known g t' c =
-    let meaning = g.I.Interner.meaning in
-    let m = meaning c.args.self.now.interner in
-    let eq = met_eq g.I.Key.PartialEq.eq in
-    let k = vid_kind c.args.target.now.vid in
-    let i = vid_number c.args.target.now.vid in
-    let u = c.args.target.now.universe.0 in
-    let al = c.args.target.now.aliases in
-    let sd = side_of c.args.inside in
-    let eqt = ty_eq g.I.Key.PartialEq.eq in
-    let was = store_of m c.args.self.now.inner in
-    let p = c.args.term.now in
-    let t = part_tree m p in
-    let v = c.args.variance in
-    let n = meaning c.loop-i.self.interner in
-    let now = store_of n c.loop-i.self.inner in
-    let inv = c.loop-i.invariant in
-    let e : part_tree n p ≡ t = stays_part inv.grown p c.requires.term_known in
-    let j = c.loop-i.i in
-    let us = list_tree (part_tree n) c.loop-i.parts.items in
-    knows_as t (part_tree n p) e c.requires.term_known
+pub generalise_parts-member-next-requires-clause-list_known : goal.generalise_parts-member-next-requires-clause-list_known
+generalise_parts-member-next-requires-clause-list_known g t' c =
+    let m = g.I.Interner.meaning c.args.self.now.interner in
+    let n = g.I.Interner.meaning c.loop-i.self.interner in
+    let ps = c.parts_of-old.result in
+    let sure = c.parts_of-old.ensures.sure in
+    knows_as (parts_tree m ps) (parts_tree n ps) (stays_parts c.loop-i.invariant.grown ps sure) sure
 
-pub generalise_parts-part-next-requires-clause-in_bounds : goal.generalise_parts-part-next-requires-clause-in_bounds
-generalise_parts-part-next-requires-clause-in_bounds g t' c =
-    let meaning = g.I.Interner.meaning in
-    let m = meaning c.args.self.now.interner in
-    let eq = met_eq g.I.Key.PartialEq.eq in
-    let k = vid_kind c.args.target.now.vid in
-    let i = vid_number c.args.target.now.vid in
-    let u = c.args.target.now.universe.0 in
-    let al = c.args.target.now.aliases in
-    let sd = side_of c.args.inside in
-    let eqt = ty_eq g.I.Key.PartialEq.eq in
-    let was = store_of m c.args.self.now.inner in
-    let p = c.args.term.now in
-    let t = part_tree m p in
-    let v = c.args.variance in
-    let n = meaning c.loop-i.self.interner in
-    let now = store_of n c.loop-i.self.inner in
-    let inv = c.loop-i.invariant in
-    let e : part_tree n p ≡ t = stays_part inv.grown p c.requires.term_known in
+pub generalise_parts-member-next-requires-clause-in_bounds : goal.generalise_parts-member-next-requires-clause-in_bounds
+generalise_parts-member-next-requires-clause-in_bounds g t' c =
+    let m = g.I.Interner.meaning c.args.self.now.interner in
+    let ps = c.parts_of-old.result in
     let j = c.loop-i.i in
-    let us = list_tree (part_tree n) c.loop-i.parts.items in
-    let counted = c.parts_count-i-end.ensures.counts in
+    let counted = c.member_count-i-end.ensures.counts in
     let test = c.loop-i-test.true in
-    let below : j < count (parts_of t) = omega (arith, counted, test) in
-    subst (λ w. j < count (parts_of w)) (sym e) below
+    let below : j < count (parts_tree m ps) = omega (arith, counted, test) in
+    subst (λ w. j < count w) (sym (stays_parts c.loop-i.invariant.grown ps c.parts_of-old.ensures.sure)) below
 
 pub generalise_parts-variance_of-at-requires-clause-term_known : goal.generalise_parts-variance_of-at-requires-clause-term_known
 generalise_parts-variance_of-at-requires-clause-term_known g t' c =
@@ -440,7 +408,7 @@ generalise_parts-variance_of-at-requires-clause-term_known g t' c =
     let inv = c.loop-i.invariant in
     let e : part_tree n p ≡ t = stays_part inv.grown p c.requires.term_known in
     let j = c.loop-i.i in
-    let us = list_tree (part_tree n) c.loop-i.parts.items in
+    let us = cond c.loop-i.differs (list_tree (part_tree n) c.loop-i.parts.items) (firsts j (parts_of t)) in
     knows_as t (part_tree n p) e c.requires.term_known
 
 pub generalise_parts-variance_of-at-requires-clause-in_bounds : goal.generalise_parts-variance_of-at-requires-clause-in_bounds
@@ -463,8 +431,8 @@ generalise_parts-variance_of-at-requires-clause-in_bounds g t' c =
     let inv = c.loop-i.invariant in
     let e : part_tree n p ≡ t = stays_part inv.grown p c.requires.term_known in
     let j = c.loop-i.i in
-    let us = list_tree (part_tree n) c.loop-i.parts.items in
-    let counted = c.parts_count-i-end.ensures.counts in
+    let us = cond c.loop-i.differs (list_tree (part_tree n) c.loop-i.parts.items) (firsts j (parts_of t)) in
+    let counted = c.member_count-i-end.ensures.counts ∙ ap count c.parts_of-old.ensures.means in
     let test = c.loop-i-test.true in
     let below : j < count (parts_of t) = omega (arith, counted, test) in
     subst (λ w. j < count (parts_of w)) (sym e) below
@@ -489,21 +457,21 @@ generalise_parts-generalise_part-requires g t' c κs within =
     let inv = c.loop-i.invariant in
     let e : part_tree n p ≡ t = stays_part inv.grown p c.requires.term_known in
     let j = c.loop-i.i in
-    let us = list_tree (part_tree n) c.loop-i.parts.items in
-    let counted = c.parts_count-i-end.ensures.counts in
+    let us = cond c.loop-i.differs (list_tree (part_tree n) c.loop-i.parts.items) (firsts j (parts_of t)) in
+    let counted = c.member_count-i-end.ensures.counts ∙ ap count c.parts_of-old.ensures.means in
     let test = c.loop-i-test.true in
     let below : j < count (parts_of t) = omega (arith, counted, test) in
-    let z = c.part-next.result in
-    let at : part_tree n z ≡ nth j (parts_of t) = c.part-next.ensures.means ∙ ap (λ w. nth j (parts_of w)) e in
+    let z = c.member-next.result in
+    let at : part_tree n z ≡ nth j (parts_of t) = c.member-next.ensures.means ∙ ap (nth j) (stays_parts inv.grown c.parts_of-old.result c.parts_of-old.ensures.sure ∙ c.parts_of-old.ensures.means) in
     let d = c.decreases in
     let f = part_smaller t j below in
     let s = ap size at in
     let small : 3 * size (part_tree n z) + 2 < 3 * size t = omega (arith, f, s) in
     let lawful = inv.lawful in
     let low : u ≤ c.loop-i.self.inner.universe.0 = (let a = c.requires.below in let b = inv.universe in omega (arith, a, b)) in
-    let there = c.part-next.ensures.sure in
+    let there = c.member-next.ensures.sure in
     let is_in : InContext now (part_tree n z) = made_context u was now c.requires.lawful.sound c.requires.below inv.makes (part_tree n z)
-    (subst (InContext was) (sym at) (context_part was t j c.parts_count-i-end.ensures.is_list c.requires.term_in)) in
+    (subst (InContext was) (sym at) (context_part was t j (subst IsList c.parts_of-old.ensures.means c.member_count-i-end.ensures.is_list) c.requires.term_in)) in
     let sure = inv.all in
     let found = inv.found in
     search rules
@@ -738,9 +706,9 @@ generalise_part-returns g t' c =
           c.in_ok-keep_type.ensures.keeps c.in_default-recall_type.ensures.not_met h.answers;
     }
 
-pub generalise_parts-parts_count-i-end-requires : goal.generalise_parts-parts_count-i-end-requires
-generalise_parts-parts_count-i-end-requires g t' c =
-    c.requires.term_known
+pub generalise_parts-member_count-i-end-requires : goal.generalise_parts-member_count-i-end-requires
+generalise_parts-member_count-i-end-requires g t' c =
+    c.parts_of-old.ensures.sure
 
 pub generalise_parts-returns-in_err-became : goal.generalise_parts-returns-in_err-became
 generalise_parts-returns-in_err-became g t' c =
@@ -762,12 +730,12 @@ generalise_parts-returns-in_err-became g t' c =
     let inv = c.loop-i.invariant in
     let e : part_tree n p ≡ t = stays_part inv.grown p c.requires.term_known in
     let j = c.loop-i.i in
-    let us = list_tree (part_tree n) c.loop-i.parts.items in
-    let counted = c.parts_count-i-end.ensures.counts in
+    let us = cond c.loop-i.differs (list_tree (part_tree n) c.loop-i.parts.items) (firsts j (parts_of t)) in
+    let counted = c.member_count-i-end.ensures.counts ∙ ap count c.parts_of-old.ensures.means in
     let test = c.loop-i-test.true in
     let below : j < count (parts_of t) = omega (arith, counted, test) in
-    let z = c.part-next.result in
-    let at : part_tree n z ≡ nth j (parts_of t) = c.part-next.ensures.means ∙ ap (λ w. nth j (parts_of w)) e in
+    let z = c.member-next.result in
+    let at : part_tree n z ≡ nth j (parts_of t) = c.member-next.ensures.means ∙ ap (nth j) (stays_parts inv.grown c.parts_of-old.result c.parts_of-old.ensures.sure ∙ c.parts_of-old.ensures.means) in
     let o = meaning c.generalise_part.new.self.interner in
     let then = store_of o c.generalise_part.new.self.inner in
     let h = c.in_err-became.ensures in
@@ -780,12 +748,12 @@ generalise_parts-returns-in_err-became g t' c =
       rest = λ s made marks inner. h.rest s
           (λ a b. (adds c.requires.lawful.sound c.requires.below inv.makes).later.grows type_var a (made a b))
           (inv.rest s made marks inner) (subst (InContext (store_in meaning s)) (sym at)
-          (context_part (store_in meaning s) t j c.parts_count-i-end.ensures.is_list inner));
+          (context_part (store_in meaning s) t j (subst IsList c.parts_of-old.ensures.means c.member_count-i-end.ensures.is_list) inner));
       clear = none_kept _ c.from_residual.result c.from_residual.ensures.0;
       answers = fails_on eq m n o was now then al k i u c.args.target.now.cyclic (any_part (side_of c.parts_inside-within.result) c.variance_of-at.result) (new_part sd v) c.args.met.now c.loop-i.met
           c.generalise_part.new.met (part_tree n z) t p z f h.answers
           (λ e2. went_stops eq m n o was now then al k i u sd v c.args.met.now c.loop-i.met c.generalise_part.new.met t c.requires.goes
-          c.parts_count-i-end.ensures.is_list j below us inv.went inv.grown (part_tree n z) at
+          (subst IsList c.parts_of-old.ensures.means c.member_count-i-end.ensures.is_list) j below us inv.went inv.grown (part_tree n z) at
           (side_of c.parts_inside-within.result) c.parts_inside-within.ensures c.variance_of-at.result)
           c.from_residual.result (as_err c.from_residual.result f c.from_residual.ensures.0 c.from_residual.ensures.1);
     }
@@ -798,9 +766,9 @@ pub generalise_parts-is_same-requires-clause-other_known : goal.generalise_parts
 generalise_parts-is_same-requires-clause-other_known g t' c =
     let n = g.I.Interner.meaning c.loop-i.self.interner in
     let o = g.I.Interner.meaning c.generalise_part.new.self.interner in
-    let z = c.part-next.result in
-    knows_as (part_tree n z) (part_tree o z) (stays_part c.in_ok-became.ensures.grown z c.part-next.ensures.sure)
-    c.part-next.ensures.sure
+    let z = c.member-next.result in
+    knows_as (part_tree n z) (part_tree o z) (stays_part c.in_ok-became.ensures.grown z c.member-next.ensures.sure)
+    c.member-next.ensures.sure
 
 pub generalise_parts-is_same-requires-clause-same_sort : goal.generalise_parts-is_same-requires-clause-same_sort
 generalise_parts-is_same-requires-clause-same_sort g t' c =
@@ -826,8 +794,8 @@ generalise_parts-returns-in_err-push g t' c =
     let inv = c.loop-i.invariant in
     let e : part_tree n p ≡ t = stays_part inv.grown p c.requires.term_known in
     let j = c.loop-i.i in
-    let us = list_tree (part_tree n) c.loop-i.parts.items in
-    let at : part_tree n c.part-next.result ≡ nth j (parts_of t) = c.part-next.ensures.means ∙ ap (λ w. nth j (parts_of w)) e in
+    let us = cond c.loop-i.differs (list_tree (part_tree n) c.loop-i.parts.items) (firsts j (parts_of t)) in
+    let at : part_tree n c.member-next.result ≡ nth j (parts_of t) = c.member-next.ensures.means ∙ ap (nth j) (stays_parts inv.grown c.parts_of-old.result c.parts_of-old.ensures.sure ∙ c.parts_of-old.ensures.means) in
     let h = c.in_ok-became.ensures in
     record {
       lawful = h.lawful;
@@ -837,10 +805,101 @@ generalise_parts-returns-in_err-push g t' c =
       rest = λ s made marks inner. h.rest s
           (λ a b. (adds c.requires.lawful.sound c.requires.below inv.makes).later.grows type_var a (made a b))
           (inv.rest s made marks inner) (subst (InContext (store_in meaning s)) (sym at)
-          (context_part (store_in meaning s) t j c.parts_count-i-end.ensures.is_list inner));
+          (context_part (store_in meaning s) t j (subst IsList c.parts_of-old.ensures.means c.member_count-i-end.ensures.is_list) inner));
       clear = none_kept _ c.from_residual-in_err-push.result c.from_residual-in_err-push.ensures.0;
       answers = memory_answers meaning eq c.args.self.now c.generalise_part.new.self al k i u c.args.target.now.cyclic c.args.met.now c.generalise_part.new.met p (new_part sd v) c.from_residual-in_err-push.result
           c.from_residual-in_err-push.ensures.0 c.from_residual-in_err-push.ensures.1;
+    }
+
+pub generalise_parts-returns-in_err-parts : goal.generalise_parts-returns-in_err-parts
+generalise_parts-returns-in_err-parts g t' c =
+    let meaning = g.I.Interner.meaning in
+    let m = meaning c.args.self.now.interner in
+    let eq = met_eq g.I.Key.PartialEq.eq in
+    let k = vid_kind c.args.target.now.vid in
+    let i = vid_number c.args.target.now.vid in
+    let u = c.args.target.now.universe.0 in
+    let al = c.args.target.now.aliases in
+    let sd = side_of c.args.inside in
+    let eqt = ty_eq g.I.Key.PartialEq.eq in
+    let was = store_of m c.args.self.now.inner in
+    let p = c.args.term.now in
+    let t = part_tree m p in
+    let v = c.args.variance in
+    let n = meaning c.loop-i.self.interner in
+    let now = store_of n c.loop-i.self.inner in
+    let inv = c.loop-i.invariant in
+    let e : part_tree n p ≡ t = stays_part inv.grown p c.requires.term_known in
+    let j = c.loop-i.i in
+    let us = cond c.loop-i.differs (list_tree (part_tree n) c.loop-i.parts.items) (firsts j (parts_of t)) in
+    let at : part_tree n c.member-next.result ≡ nth j (parts_of t) = c.member-next.ensures.means ∙ ap (nth j) (stays_parts inv.grown c.parts_of-old.result c.parts_of-old.ensures.sure ∙ c.parts_of-old.ensures.means) in
+    let h = c.in_ok-became.ensures in
+    record {
+      lawful = h.lawful;
+      grown = extends_on inv.grown h.grown;
+      universe = h.universe ∙ inv.universe;
+      makes = makes_then inv.makes h.makes;
+      rest = λ s made marks inner. h.rest s
+          (λ a b. (adds c.requires.lawful.sound c.requires.below inv.makes).later.grows type_var a (made a b))
+          (inv.rest s made marks inner) (subst (InContext (store_in meaning s)) (sym at)
+          (context_part (store_in meaning s) t j (subst IsList c.parts_of-old.ensures.means c.member_count-i-end.ensures.is_list) inner));
+      clear = none_kept _ c.from_residual-in_err-parts.result c.from_residual-in_err-parts.ensures.0;
+      answers = memory_answers meaning eq c.args.self.now c.generalise_part.new.self al k i u c.args.target.now.cyclic c.args.met.now c.generalise_part.new.met p (new_part sd v) c.from_residual-in_err-parts.result
+          c.from_residual-in_err-parts.ensures.0 c.from_residual-in_err-parts.ensures.1;
+    }
+
+pub generalise_parts-returns-in_err-push-2 : goal.generalise_parts-returns-in_err-push-2
+generalise_parts-returns-in_err-push-2 g t' c =
+    let meaning = g.I.Interner.meaning in
+    let m = meaning c.args.self.now.interner in
+    let eq = met_eq g.I.Key.PartialEq.eq in
+    let k = vid_kind c.args.target.now.vid in
+    let i = vid_number c.args.target.now.vid in
+    let u = c.args.target.now.universe.0 in
+    let al = c.args.target.now.aliases in
+    let sd = side_of c.args.inside in
+    let eqt = ty_eq g.I.Key.PartialEq.eq in
+    let was = store_of m c.args.self.now.inner in
+    let p = c.args.term.now in
+    let t = part_tree m p in
+    let v = c.args.variance in
+    let n = meaning c.loop-i.self.interner in
+    let now = store_of n c.loop-i.self.inner in
+    let inv = c.loop-i.invariant in
+    let e : part_tree n p ≡ t = stays_part inv.grown p c.requires.term_known in
+    let j = c.loop-i.i in
+    let us = cond c.loop-i.differs (list_tree (part_tree n) c.loop-i.parts.items) (firsts j (parts_of t)) in
+    let at : part_tree n c.member-next.result ≡ nth j (parts_of t) = c.member-next.ensures.means ∙ ap (nth j) (stays_parts inv.grown c.parts_of-old.result c.parts_of-old.ensures.sure ∙ c.parts_of-old.ensures.means) in
+    let h = c.in_ok-became.ensures in
+    record {
+      lawful = h.lawful;
+      grown = extends_on inv.grown h.grown;
+      universe = h.universe ∙ inv.universe;
+      makes = makes_then inv.makes h.makes;
+      rest = λ s made marks inner. h.rest s
+          (λ a b. (adds c.requires.lawful.sound c.requires.below inv.makes).later.grows type_var a (made a b))
+          (inv.rest s made marks inner) (subst (InContext (store_in meaning s)) (sym at)
+          (context_part (store_in meaning s) t j (subst IsList c.parts_of-old.ensures.means c.member_count-i-end.ensures.is_list) inner));
+      clear = none_kept _ c.from_residual-in_err-push-2.result c.from_residual-in_err-push-2.ensures.0;
+      answers = memory_answers meaning eq c.args.self.now c.generalise_part.new.self al k i u c.args.target.now.cyclic c.args.met.now c.generalise_part.new.met p (new_part sd v) c.from_residual-in_err-push-2.result
+          c.from_residual-in_err-push-2.ensures.0 c.from_residual-in_err-push-2.ensures.1;
+    }
+
+pub generalise_parts-first_members-requires : goal.generalise_parts-first_members-requires
+generalise_parts-first_members-requires g t' c =
+    let m = g.I.Interner.meaning c.args.self.now.interner in
+    let o = g.I.Interner.meaning c.generalise_part.new.self.interner in
+    let ps = c.parts_of-old.result in
+    let sure = c.parts_of-old.ensures.sure in
+    let whole : parts_tree o ps ≡ parts_tree m ps =
+    stays_parts (extends_on c.loop-i.invariant.grown c.in_ok-became.ensures.grown) ps sure in
+    let j = c.loop-i.i in
+    let counted = c.member_count-i-end.ensures.counts in
+    let test = c.loop-i-test.true in
+    let below : j ≤ count (parts_tree m ps) = omega (arith, counted, test) in
+    record {
+      list_known = knows_as (parts_tree m ps) (parts_tree o ps) whole sure;
+      in_bounds = subst (λ w. j ≤ count w) (sym whole) below;
     }
 
 pub generalise_parts-loop-i-preserved : goal.generalise_parts-loop-i-preserved
@@ -863,12 +922,12 @@ generalise_parts-loop-i-preserved g t' c =
     let inv = c.loop-i.invariant in
     let e : part_tree n p ≡ t = stays_part inv.grown p c.requires.term_known in
     let j = c.loop-i.i in
-    let us = list_tree (part_tree n) c.loop-i.parts.items in
-    let counted = c.parts_count-i-end.ensures.counts in
+    let us = cond c.loop-i.differs (list_tree (part_tree n) c.loop-i.parts.items) (firsts j (parts_of t)) in
+    let counted = c.member_count-i-end.ensures.counts ∙ ap count c.parts_of-old.ensures.means in
     let test = c.loop-i-test.true in
     let below : j < count (parts_of t) = omega (arith, counted, test) in
-    let z = c.part-next.result in
-    let at : part_tree n z ≡ nth j (parts_of t) = c.part-next.ensures.means ∙ ap (λ w. nth j (parts_of w)) e in
+    let z = c.member-next.result in
+    let at : part_tree n z ≡ nth j (parts_of t) = c.member-next.ensures.means ∙ ap (nth j) (stays_parts inv.grown c.parts_of-old.result c.parts_of-old.ensures.sure ∙ c.parts_of-old.ensures.means) in
     let o = meaning c.generalise_part.new.self.interner in
     let then = store_of o c.generalise_part.new.self.inner in
     let sorted : Sorted n = g.met.I.Interner.sorted c.loop-i.self.interner in
@@ -876,39 +935,92 @@ generalise_parts-loop-i-preserved g t' c =
     let a = h.answers in
     let w = c.in_ok-became.became in
     let xs = c.loop-i.parts.items in
-    let stay = stays_list (part_tree n) (part_tree o) xs (stays_part h.grown) inv.sure in
     let next : j + 1 ≡ suc j = omega arith in
-    let items = c.in_ok-push.ensures.items in
-    let stays : part_tree o z ≡ part_tree n z = stays_part h.grown z c.part-next.ensures.sure in
-    let sort = a.1 ∙ sym (sort_known n sorted z c.part-next.ensures.sure) ∙ ap tree_sort at in
-    let pushed = ap (list_tree (part_tree o)) items ∙ list_push (part_tree o) xs w ∙ ap (λ y. snoc y (part_tree o w)) stay in
-    record {
-      lawful = h.lawful;
-      grown = extends_on inv.grown h.grown;
-      universe = h.universe ∙ inv.universe;
-      makes = makes_then inv.makes h.makes;
-      rest = λ s made marks inner. h.rest s
-          (λ a b. (adds c.requires.lawful.sound c.requires.below inv.makes).later.grows type_var a (made a b))
-          (inv.rest s made marks inner) (subst (InContext (store_in meaning s)) (sym at)
-          (context_part (store_in meaning s) t j c.parts_count-i-end.ensures.is_list inner));
-      all = a.2;
-      found = h.clear;
-      sure = subst (λ ys. IsTrue (known (list_tree (part_tree o) ys))) (sym items)
-          (known_with_last (part_tree o) xs w (knows_as us (list_tree (part_tree o) xs) stay inv.sure) a.0);
-      fit = subst₂ (λ ys d. Fit ys (firsts d (parts_of t))) (sym items) (sym next) (fit_next w j (parts_of t) xs below inv.fit sort);
-      went = went_next eq m n o was now then al k i u sd v c.args.met.now c.loop-i.met c.generalise_part.new.met t c.requires.goes
-          c.parts_count-i-end.ensures.is_list j below us inv.went inv.grown (part_tree n z) at
-          (side_of c.parts_inside-within.result) c.parts_inside-within.ensures c.variance_of-at.result
-          (c.variance_of-at.ensures ∙ ap (λ y. variance_of_part (items_of n) y j v) e) (part_tree o w) a.3 (j + 1)
-          (list_tree (part_tree o) c.push.new.self.items) next pushed;
-      unchanged = λ q.
-          let both = and_parts c.loop-i.same c.is_same.result q in
-          pushed ∙ ap₂ snoc (inv.unchanged both.0) (c.is_same.ensures.one both.1 ∙ stays ∙ at) ∙ sym (firsts_more j (parts_of t) below)
-          ∙ ap (λ d. firsts d (parts_of t)) (sym next);
-    }
+    let stays : part_tree o z ≡ part_tree n z = stays_part h.grown z c.member-next.ensures.sure in
+    let sort = a.1 ∙ sym (sort_known n sorted z c.member-next.ensures.sure) ∙ ap tree_sort at in
+    let listed = subst IsList c.parts_of-old.ensures.means c.member_count-i-end.ensures.is_list in
+    let ps = c.parts_of-old.result in
+    let whole : parts_tree o ps ≡ parts_of t =
+    stays_parts (extends_on inv.grown h.grown) ps c.parts_of-old.ensures.sure ∙ c.parts_of-old.ensures.means in
+    elim c.if-differs.branch [
+      | generalise_parts-then-differs+in_ok-push x ↦
+          let was_kept = inv.kept x.if-differs.true in
+          let stay = stays_list (part_tree n) (part_tree o) xs (stays_part h.grown) was_kept.0 in
+          let items = ap (λ q. q.items) x.parts-is ∙ x.in_ok-push.ensures.items in
+          let us_is : us ≡ list_tree (part_tree n) xs =
+          ap (λ b. cond b (list_tree (part_tree n) xs) (firsts j (parts_of t))) x.if-differs.true in
+          record {
+            lawful = h.lawful;
+            grown = extends_on inv.grown h.grown;
+            universe = h.universe ∙ inv.universe;
+            makes = makes_then inv.makes h.makes;
+            rest = λ s made marks inner. h.rest s
+                (λ a b. (adds c.requires.lawful.sound c.requires.below inv.makes).later.grows type_var a (made a b))
+                (inv.rest s made marks inner) (subst (InContext (store_in meaning s)) (sym at)
+                (context_part (store_in meaning s) t j listed inner));
+            all = a.2;
+            found = h.clear;
+            kept = λ q. pushed_kept (part_tree o) w j (j + 1) (parts_of t) xs _ below next items
+                (knows_as (list_tree (part_tree n) xs) (list_tree (part_tree o) xs) stay was_kept.0) was_kept.1 a.0 sort;
+            went = went_next eq m n o was now then al k i u sd v c.args.met.now c.loop-i.met c.generalise_part.new.met t
+                c.requires.goes listed j below us inv.went inv.grown (part_tree n z) at
+                (side_of c.parts_inside-within.result) c.parts_inside-within.ensures c.variance_of-at.result
+                (c.variance_of-at.ensures ∙ ap (λ y. variance_of_part (items_of n) y j v) e) (part_tree o w) a.3 (j + 1)
+                _ next (pushed_tree (part_tree o) w xs _ us (firsts (j + 1) (parts_of t)) items
+                (x.differs-is ∙ x.if-differs.true) (stay ∙ sym us_is));
+          }
+      | generalise_parts-else-differs+then-not-is_same+in_ok-parts+in_ok-push-2 x ↦
+          let f = x.in_ok-parts.ensures in
+          let ys = x.in_ok-parts.parts.items in
+          let items = ap (λ q. q.items) x.parts-is ∙ x.in_ok-push-2.ensures.items in
+          let us_is : us ≡ firsts j (parts_of t) =
+          ap (λ b. cond b (list_tree (part_tree n) xs) (firsts j (parts_of t))) x.if-differs.false in
+          record {
+            lawful = h.lawful;
+            grown = extends_on inv.grown h.grown;
+            universe = h.universe ∙ inv.universe;
+            makes = makes_then inv.makes h.makes;
+            rest = λ s made marks inner. h.rest s
+                (λ a b. (adds c.requires.lawful.sound c.requires.below inv.makes).later.grows type_var a (made a b))
+                (inv.rest s made marks inner) (subst (InContext (store_in meaning s)) (sym at)
+                (context_part (store_in meaning s) t j listed inner));
+            all = a.2;
+            found = h.clear;
+            kept = λ q. pushed_kept (part_tree o) w j (j + 1) (parts_of t) ys _ below next items
+                f.sure (subst (λ y. Fit ys (firsts j y)) whole f.fit) a.0 sort;
+            went = went_next eq m n o was now then al k i u sd v c.args.met.now c.loop-i.met c.generalise_part.new.met t
+                c.requires.goes listed j below us inv.went inv.grown (part_tree n z) at
+                (side_of c.parts_inside-within.result) c.parts_inside-within.ensures c.variance_of-at.result
+                (c.variance_of-at.ensures ∙ ap (λ y. variance_of_part (items_of n) y j v) e) (part_tree o w) a.3 (j + 1)
+                _ next (pushed_tree (part_tree o) w ys _ us (firsts (j + 1) (parts_of t)) items x.differs-is
+                (f.same ∙ ap (firsts j) whole ∙ sym us_is));
+          }
+      | generalise_parts-else-differs+else-not-is_same x ↦
+          let us_is : us ≡ firsts j (parts_of t) =
+          ap (λ b. cond b (list_tree (part_tree n) xs) (firsts j (parts_of t))) x.if-differs.false in
+          record {
+            lawful = h.lawful;
+            grown = extends_on inv.grown h.grown;
+            universe = h.universe ∙ inv.universe;
+            makes = makes_then inv.makes h.makes;
+            rest = λ s made marks inner. h.rest s
+                (λ a b. (adds c.requires.lawful.sound c.requires.below inv.makes).later.grows type_var a (made a b))
+                (inv.rest s made marks inner) (subst (InContext (store_in meaning s)) (sym at)
+                (context_part (store_in meaning s) t j listed inner));
+            all = a.2;
+            found = h.clear;
+            kept = λ q. absurd (false≢true (sym x.if-differs.false ∙ sym x.differs-is ∙ q));
+            went = went_next eq m n o was now then al k i u sd v c.args.met.now c.loop-i.met c.generalise_part.new.met t
+                c.requires.goes listed j below us inv.went inv.grown (part_tree n z) at
+                (side_of c.parts_inside-within.result) c.parts_inside-within.ensures c.variance_of-at.result
+                (c.variance_of-at.ensures ∙ ap (λ y. variance_of_part (items_of n) y j v) e) (part_tree o w) a.3 (j + 1)
+                _ next (same_tree _ j (j + 1) (parts_of t) us (part_tree o w) below next us_is
+                (x.is_same.ensures.one x.if-not-is_same.false ∙ stays ∙ at) (x.differs-is ∙ x.if-differs.false));
+          }
+    ]
 
-pub generalise_parts-returns-then-same : goal.generalise_parts-returns-then-same
-generalise_parts-returns-then-same g t' c =
+pub generalise_parts-returns : goal.generalise_parts-returns
+generalise_parts-returns g t' c =
     let meaning = g.I.Interner.meaning in
     let m = meaning c.args.self.now.interner in
     let eq = met_eq g.I.Key.PartialEq.eq in
@@ -927,15 +1039,17 @@ generalise_parts-returns-then-same g t' c =
     let inv = c.loop-i.invariant in
     let e : part_tree n p ≡ t = stays_part inv.grown p c.requires.term_known in
     let j = c.loop-i.i in
-    let us = list_tree (part_tree n) c.loop-i.parts.items in
-    let counted = c.parts_count-i-end.ensures.counts in
+    let us = cond c.loop-i.differs (list_tree (part_tree n) c.loop-i.parts.items) (firsts j (parts_of t)) in
+    let counted = c.member_count-i-end.ensures.counts ∙ ap count c.parts_of-old.ensures.means in
     let test = c.loop-i-test.false in
     let end = c.loop-i.auto.i-end in
     let all : j ≡ count (parts_of t) = omega (arith, counted, test, end) in
     let sorted : Sorted m = g.met.I.Interner.sorted c.args.self.now.interner in
-    let whole : firsts j (parts_of t) ≡ parts_of t = ap (λ d. firsts d (parts_of t)) all ∙ firsts_all (parts_of t) c.parts_count-i-end.ensures.is_list in
+    let whole : firsts j (parts_of t) ≡ parts_of t = ap (λ d. firsts d (parts_of t)) all ∙ firsts_all (parts_of t) (subst IsList c.parts_of-old.ensures.means c.member_count-i-end.ensures.is_list) in
     let became = went_whole eq m n was now al k i u sd v c.args.met.now c.loop-i.met (new_kind p) t j us c.requires.goes (λ s. has_sort p (sym (sort_known m sorted p c.requires.term_known) ∙ s))
-    c.parts_count-i-end.ensures.is_list all c.requires.stays inv.went in
+    (subst IsList c.parts_of-old.ensures.means c.member_count-i-end.ensures.is_list) all c.requires.stays inv.went in
+    let us_is : us ≡ firsts j (parts_of t) =
+    ap (λ b. cond b (list_tree (part_tree n) c.loop-i.parts.items) (firsts j (parts_of t))) c.if-differs-2.false in
     record {
       lawful = inv.lawful;
       grown = inv.grown;
@@ -948,7 +1062,7 @@ generalise_parts-returns-then-same g t' c =
         refl,
         inv.all,
         subst (BecomesAlways eq m n was now al k i u (new_part sd v) c.args.met.now c.loop-i.met t)
-            (ap (over t) (inv.unchanged c.if-same.true ∙ whole) ∙ over_itself t ∙ sym e) became,
+            (ap (over t) (us_is ∙ whole) ∙ over_itself t ∙ sym e) became,
       );
     }
 
@@ -972,7 +1086,7 @@ generalise_parts-with_parts-requires-clause-term_known g t' c =
     let inv = c.loop-i.invariant in
     let e : part_tree n p ≡ t = stays_part inv.grown p c.requires.term_known in
     let j = c.loop-i.i in
-    let us = list_tree (part_tree n) c.loop-i.parts.items in
+    let us = cond c.loop-i.differs (list_tree (part_tree n) c.loop-i.parts.items) (firsts j (parts_of t)) in
     knows_as t (part_tree n p) e c.requires.term_known
 
 pub generalise_parts-with_parts-requires-clause-parts_known : goal.generalise_parts-with_parts-requires-clause-parts_known
@@ -995,8 +1109,8 @@ generalise_parts-with_parts-requires-clause-parts_known g t' c =
     let inv = c.loop-i.invariant in
     let e : part_tree n p ≡ t = stays_part inv.grown p c.requires.term_known in
     let j = c.loop-i.i in
-    let us = list_tree (part_tree n) c.loop-i.parts.items in
-    subst (λ ys. IsTrue (known (list_tree (part_tree n) ys))) (sym c.as_slice.ensures.value) inv.sure
+    let us = cond c.loop-i.differs (list_tree (part_tree n) c.loop-i.parts.items) (firsts j (parts_of t)) in
+    subst (λ ys. IsTrue (known (list_tree (part_tree n) ys))) (sym c.as_slice.ensures.value) (inv.kept c.if-differs-2.true).0
 
 pub generalise_parts-with_parts-requires-clause-fits : goal.generalise_parts-with_parts-requires-clause-fits
 generalise_parts-with_parts-requires-clause-fits g t' c =
@@ -1018,14 +1132,14 @@ generalise_parts-with_parts-requires-clause-fits g t' c =
     let inv = c.loop-i.invariant in
     let e : part_tree n p ≡ t = stays_part inv.grown p c.requires.term_known in
     let j = c.loop-i.i in
-    let us = list_tree (part_tree n) c.loop-i.parts.items in
-    let counted = c.parts_count-i-end.ensures.counts in
+    let us = cond c.loop-i.differs (list_tree (part_tree n) c.loop-i.parts.items) (firsts j (parts_of t)) in
+    let counted = c.member_count-i-end.ensures.counts ∙ ap count c.parts_of-old.ensures.means in
     let test = c.loop-i-test.false in
     let end = c.loop-i.auto.i-end in
     let all : j ≡ count (parts_of t) = omega (arith, counted, test, end) in
-    let whole : firsts j (parts_of t) ≡ parts_of t = ap (λ d. firsts d (parts_of t)) all ∙ firsts_all (parts_of t) c.parts_count-i-end.ensures.is_list in
+    let whole : firsts j (parts_of t) ≡ parts_of t = ap (λ d. firsts d (parts_of t)) all ∙ firsts_all (parts_of t) (subst IsList c.parts_of-old.ensures.means c.member_count-i-end.ensures.is_list) in
     subst (λ ys. Fit ys (parts_of (part_tree n p))) (sym c.as_slice.ensures.value)
-    (subst (λ y. Fit c.loop-i.parts.items (parts_of y)) (sym e) (subst (Fit c.loop-i.parts.items) whole inv.fit))
+    (subst (λ y. Fit c.loop-i.parts.items (parts_of y)) (sym e) (subst (Fit c.loop-i.parts.items) whole (inv.kept c.if-differs-2.true).1))
 
 pub generalise_parts-returns-in_err-with_parts : goal.generalise_parts-returns-in_err-with_parts
 generalise_parts-returns-in_err-with_parts g t' c =
@@ -1047,7 +1161,7 @@ generalise_parts-returns-in_err-with_parts g t' c =
     let inv = c.loop-i.invariant in
     let e : part_tree n p ≡ t = stays_part inv.grown p c.requires.term_known in
     let j = c.loop-i.i in
-    let us = list_tree (part_tree n) c.loop-i.parts.items in
+    let us = cond c.loop-i.differs (list_tree (part_tree n) c.loop-i.parts.items) (firsts j (parts_of t)) in
     let h = c.in_err-with_parts.ensures in
     record {
       lawful = lawful_grows h.grown c.loop-i.self.inner inv.lawful;
@@ -1061,8 +1175,8 @@ generalise_parts-returns-in_err-with_parts g t' c =
           c.from_residual-in_err-with_parts.ensures.0 c.from_residual-in_err-with_parts.ensures.1;
     }
 
-pub generalise_parts-returns : goal.generalise_parts-returns
-generalise_parts-returns g t' c =
+pub generalise_parts-returns-then-differs-2 : goal.generalise_parts-returns-then-differs-2
+generalise_parts-returns-then-differs-2 g t' c =
     let meaning = g.I.Interner.meaning in
     let m = meaning c.args.self.now.interner in
     let eq = met_eq g.I.Key.PartialEq.eq in
@@ -1081,18 +1195,20 @@ generalise_parts-returns g t' c =
     let inv = c.loop-i.invariant in
     let e : part_tree n p ≡ t = stays_part inv.grown p c.requires.term_known in
     let j = c.loop-i.i in
-    let us = list_tree (part_tree n) c.loop-i.parts.items in
-    let counted = c.parts_count-i-end.ensures.counts in
+    let us = cond c.loop-i.differs (list_tree (part_tree n) c.loop-i.parts.items) (firsts j (parts_of t)) in
+    let counted = c.member_count-i-end.ensures.counts ∙ ap count c.parts_of-old.ensures.means in
     let test = c.loop-i-test.false in
     let end = c.loop-i.auto.i-end in
     let all : j ≡ count (parts_of t) = omega (arith, counted, test, end) in
     let sorted : Sorted m = g.met.I.Interner.sorted c.args.self.now.interner in
-    let whole : firsts j (parts_of t) ≡ parts_of t = ap (λ d. firsts d (parts_of t)) all ∙ firsts_all (parts_of t) c.parts_count-i-end.ensures.is_list in
+    let whole : firsts j (parts_of t) ≡ parts_of t = ap (λ d. firsts d (parts_of t)) all ∙ firsts_all (parts_of t) (subst IsList c.parts_of-old.ensures.means c.member_count-i-end.ensures.is_list) in
     let became = went_whole eq m n was now al k i u sd v c.args.met.now c.loop-i.met (new_kind p) t j us c.requires.goes (λ s. has_sort p (sym (sort_known m sorted p c.requires.term_known) ∙ s))
-    c.parts_count-i-end.ensures.is_list all c.requires.stays inv.went in
+    (subst IsList c.parts_of-old.ensures.means c.member_count-i-end.ensures.is_list) all c.requires.stays inv.went in
     let h = c.in_ok-with_parts.ensures in
     let o = meaning c.with_parts.new.cx in
     let x = c.in_ok-with_parts.field-0 in
+    let us_is : us ≡ list_tree (part_tree n) c.loop-i.parts.items =
+    ap (λ b. cond b (list_tree (part_tree n) c.loop-i.parts.items) (firsts j (parts_of t))) c.if-differs-2.true in
     let kept = store_grows h.grown c.loop-i.self.inner inv.lawful in
     record {
       lawful = lawful_grows h.grown c.loop-i.self.inner inv.lawful;
@@ -1108,6 +1224,6 @@ generalise_parts-returns g t' c =
         sure_grows h.grown eq c.loop-i.met inv.all,
         becomes_grows eq h.grown was now (store_of o c.loop-i.self.inner) al k i u (new_part sd v) c.args.met.now c.loop-i.met t (over t us)
             (part_tree o x) inv.all kept
-            (h.made ∙ ap₂ over e (ap (list_tree (part_tree n)) c.as_slice.ensures.value)) became,
+            (h.made ∙ ap₂ over e (ap (list_tree (part_tree n)) c.as_slice.ensures.value ∙ sym us_is)) became,
       );
     }

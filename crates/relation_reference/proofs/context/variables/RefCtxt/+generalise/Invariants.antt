@@ -1,4 +1,4 @@
-use Rattle.std.proofs.Common.{◌≡◌, ◌+◌, ◌*◌, IsTrue}
+use Rattle.std.proofs.Common.{◌≡◌, ◌+◌, ◌*◌, IsTrue, true, cond}
 use Rattle.relation_terms.specs.Trees.{size, known, list_tree}
 use Rattle.relation_terms.specs.Meaning.{Extends}
 use Rattle.relation_terms.specs.Parts.{part_tree, parts_of, Fit}
@@ -28,7 +28,7 @@ invariant-generalise_parts-loop-i g l =
     let was = store_of m l.fn.self.inner in
     let now = store_of n l.self.inner in
     let ts = parts_of (part_tree m l.term) in
-    let us = list_tree (part_tree n) l.parts.items in
+    let made = list_tree (part_tree n) l.parts.items in
     record {
       lawful : IsLawful n l.self.inner;
       grown : Extends m n;
@@ -38,10 +38,8 @@ invariant-generalise_parts-loop-i g l =
       all : IsSure (met_eq g.I.Key.PartialEq.eq) n l.met;
       found : AreClear (ty_eq g.I.Key.PartialEq.eq) n (vid_kind l.target.vid) (vid_number l.target.vid)
           l.target.universe.0 l.clear;
-      sure : IsTrue (known us);
-      fit : Fit l.parts.items (firsts l.i ts);
+      kept : l.differs ≡ true → IsTrue (known made) × Fit l.parts.items (firsts l.i ts);
       went : WentAlways (met_eq g.I.Key.PartialEq.eq) m n was now l.target.aliases (vid_kind l.target.vid)
           (vid_number l.target.vid) l.target.universe.0 (side_of l.inside) l.variance l.fn.met l.met
-          (part_tree m l.term) l.i us;
-      unchanged : IsTrue l.same → us ≡ firsts l.i ts;
+          (part_tree m l.term) l.i (cond l.differs made (firsts l.i ts));
     }
