@@ -57,7 +57,7 @@ use Rattle.relation_semantics.specs.FirstOrder.{IsFirstOrderStore, Unifies, IsEr
 use Rattle.relation_semantics.specs.Errors.{ErrorOf, ErrorAs, Meeting, as_pair, as_forms, IsDeferred}
 use Rattle.relation_semantics.specs.Agreeing.{Agree, AgreeBy}
 use Rattle.relation_semantics.specs.Asking.{Wanted, a_constraint, a_goal, AsksFor, HaveAlias}
-use Rattle.relation_semantics.specs.Recording.{AreBare, IsRecorded}
+use Rattle.relation_semantics.specs.Recording.{AreBare, IsRecorded, AsksNoMore, LeadsAsking}
 use Rattle.relation_semantics.specs.Measures.{Goes, grown}
 use Rattle.relation_semantics.specs.Bound.{IsWellBound}
 
@@ -306,10 +306,16 @@ module _ {Key Id Name : Type 0} where
   RecordsJustAsked M r q v a b = (M r.kept.settings).records_asked → AreBare r.kept.settings a b →
       RecordsJust (λ z. AsksFor (items_in r) z v a b) r q
 
+  -- Two terms that are gone into were related, and no constraint was recorded but what they ask for, by what they come
+  -- to then.
+  abbrev pub RecordsNoMore : Manners → State Key Id Name → State Key Id Name → Variance → Tree → Tree → Type 0
+  RecordsNoMore M r q v a b = (M r.kept.settings).records_asked →
+      AsksNoMore r.kept.settings (items_in r) r.store q.store v a b
+
   -- The same by how they are brought together: of two forms, if none is an alias. It is said of terms alone.
   abbrev pub RecordsAs : Meeting → Manners → State Key Id Name → State Key Id Name → Way → Tree → Tree → Type 0
-  RecordsAs as_pair M r q (at v) a b = RecordsJustAsked M r q v a b
-  RecordsAs as_forms M r q (at v) a b = (HaveAlias a b → ⊥) → RecordsJustAsked M r q v a b
+  RecordsAs as_pair M r q (at v) a b = RecordsJustAsked M r q v a b × RecordsNoMore M r q v a b
+  RecordsAs as_forms M r q (at v) a b = (HaveAlias a b → ⊥) → RecordsJustAsked M r q v a b × RecordsNoMore M r q v a b
   RecordsAs y M r q way a b = Unit {0}
 
   -- And by what came of it.
@@ -427,14 +433,17 @@ module _ {Key Id Name : Type 0} where
     pub built : StaysBuilt r.store q.store passes.added a b
 
   -- A step records of two bare terms just what they ask for: where it answers, all of it; where two forms are left,
-  -- these are the two, and it records nothing. It leaves no other pair of them.
+  -- these are the two, and it records nothing. It leaves no other pair of them. Of terms that are gone into it records no
+  -- constraint but what they ask for, and where a pair is left none, and what that pair asks for they do.
   abbrev pub StepRecords : {K : Type 0} → Manners → State Key Id Name → State Key Id Name → (K → Tree) → Tree → Tree →
       Result (Step K) (RelateFault Key Id Name) → Type 0
-  StepRecords M r q tree a b (Ok (Done t)) = RecordsJustAsked M r q r.ambient a b
-  StepRecords M r q tree a b (Ok (Parts x y)) = (M r.kept.settings).records_asked → AreBare r.kept.settings a b →
-      (tree x ≡ a) × (tree y ≡ b) × RecordsJust (λ z. ⊥) r q
+  StepRecords M r q tree a b (Ok (Done t)) = RecordsJustAsked M r q r.ambient a b × RecordsNoMore M r q r.ambient a b
+  StepRecords M r q tree a b (Ok (Parts x y)) = ((M r.kept.settings).records_asked → AreBare r.kept.settings a b →
+      (tree x ≡ a) × (tree y ≡ b) × RecordsJust (λ z. ⊥) r q) × ((M r.kept.settings).records_asked →
+      LeadsAsking r.kept.settings (items_in r) r.store q.store r.ambient a b r.ambient (tree x) (tree y))
   StepRecords M r q tree a b (Ok (Again k l x y v u)) =
-      (M r.kept.settings).records_asked → AreBare r.kept.settings a b → ⊥
+      ((M r.kept.settings).records_asked → AreBare r.kept.settings a b → ⊥) × ((M r.kept.settings).records_asked →
+      LeadsAsking r.kept.settings (items_in r) r.store q.store r.ambient a b (xform r.ambient v) (tree x) (tree y))
   StepRecords M r q tree a b (Err f) = Unit {0}
 
   -- What is known of two terms that were related at a variance, where a relation stands.
