@@ -6,7 +6,7 @@ use Rattle.term_enums.specs.declared.Variance.TheVariants.{Covariant, Invariant,
 use Rattle.term_enums.specs.Variances.{xform}
 use Rattle.relation_terms.specs.declared.terms.keys.TyKey.{TyKey}
 use Rattle.relation_terms.specs.declared.terms.keys.ConstKey.{ConstKey}
-use Rattle.relation_terms.specs.Heads.{const_sort, VarKind, type_var, const_var, variable}
+use Rattle.relation_terms.specs.Heads.{const_sort, VarKind, type_var, const_var}
 use Rattle.relation_terms.specs.Trees.{Tree, apply, known, IsTerm}
 use Rattle.relation_semantics.specs.declared.relate.Step.{Step}
 use Rattle.relation_semantics.specs.declared.relate.Step.TheVariants.{Done, Parts, Again}
