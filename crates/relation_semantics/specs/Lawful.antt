@@ -23,7 +23,7 @@
 --   Noted r q a b result                  something was noted of two terms, which asks nothing of them
 --   Covers since r                        what it remembers asks for what stands among these constraints and its goals
 --   RecordsJust A r q                     just what A says was recorded and registered
---   RecordsJustAsked M r q v a b          of two bare terms just what they ask for was
+--   RecordsJustAsked, RecordsNoMore       of two bare terms just what they ask for was; of others no more than that
 --   StepRecords M r q tree a b result     so it was by a step
 use Rattle.std.specs.Prelude.{◌≡◌, ◌⊎◌, ℕ, suc, ◌+◌, ◌≤◌, List, [], ◌++◌, All, Contains, IsTrue, get_or}
 use Rattle.std.specs.Prelude.{Option, Some, None, Result, Ok, Err, OnErr}
