@@ -21,3 +21,4 @@ pub mod Spending
 pub mod Stepping
 pub mod StepsAlone
 pub mod StepsRecord
+pub mod StepsAsk

@@ -29,10 +29,11 @@ use Rattle.term_enums.specs.declared.StructurallyRelateAliases.{StructurallyRela
 use Rattle.relation_semantics.specs.declared.relate.Step.TheVariants.{Done}
 use Rattle.relation_semantics.specs.Relation.{Interpretation, RegionRule, regions, at, sort_of}
 use Rattle.relation_semantics.specs.Asking.{region_at, of_regions}
-use Rattle.relation_semantics.specs.Recording.{AreBare, IsJustAsked}
+use Rattle.relation_semantics.specs.Recording.{AreBare, IsJustAsked, AsksNoMore}
 use Rattle.relation_semantics.specs.Errors.{as_pair}
 use Rattle.relation_semantics.proofs.Asking.{regions_ask_one, region_asked}
 use Rattle.relation_semantics.proofs.Recording.{records_constraint, just_asked}
+use Rattle.relation_semantics.proofs.AskingSince.{regions_no_more}
 use Rattle.relation_semantics.specs.Stores.{Store, IsRegionIn, IsSound}
 use Rattle.relation_semantics.specs.Stores.{ConstraintHolds, all_bound}
 use Rattle.relation_semantics.specs.Goals.{Goal, goals_of, KnowsGoal, Registered, GoalInContext, Holds, MakesOneTree}
@@ -227,10 +228,14 @@ module _ {Key Id Name : Type 0} {j j' : Held Key} (held : j' ≡ j) (gs : List (
           full = λ ha hb. constraint_full was now (constraint_of m c) added;
           built = built_constraint was now (m.region a) (m.region b) added.same_entries added.same_universe
               added.same_taint added.same_budget;
-          records = λ promised bare. records_constraint (constraint_of m c) (stays_same m) added.one_more refl
-              (ap settings_by held) refl (ap (λ i. i.memory) held)
-              (of_regions (constraint_of m c) refl left_sort right_sort asks)
-              (λ z w. regions_ask_one (constraint_of m c) left_sort asks w);
+          records = (
+            λ promised bare. records_constraint (constraint_of m c) (stays_same m) added.one_more refl
+                (ap settings_by held) refl (ap (λ i. i.memory) held)
+                (of_regions (constraint_of m c) refl left_sort right_sort asks)
+                (λ z w. regions_ask_one (constraint_of m c) left_sort asks w),
+            λ promised. regions_no_more (solver_settings j.structurally_relate_aliases j.setup) (items_of m) was now v
+                (m.region a) (m.region b) (constraint_of m c) left_sort right_sort asks added.one_more,
+          );
         }
           where
             left_sort : sort_of (m.region a) ≡ region_sort
@@ -412,17 +417,20 @@ module _ {Key Id Name X : Type 0} (j i : Held Key) (gs hs : List (KeyedGoal Key 
           RecordsOf as_pair solver_manner (solving (seen_from j j) gs m was L v e) (solving (seen_from j i) hs n now K v e)
           (at v) a b r
       records (Err f) just = tt
-      records (Ok t) just = λ promised bare. let z = just promised bare in record {
-        constraints = z.constraints;
-        goals = z.goals;
-        recorded = z.recorded;
-        registered = z.registered;
-        constraints_asked = z.constraints_asked;
-        goals_asked = z.goals_asked;
-        covers = λ since c p held. let k = z.covers since c p held in
-            (k.0, k.1, λ pair. k.2 (subst (λ s. AreBare s (n.ty p.1) (n.ty p.2)) (sym same_set) pair));
-        all = z.all;
-      }
+      records (Ok t) just = (
+        λ promised bare. let z = just.0 promised bare in record {
+          constraints = z.constraints;
+          goals = z.goals;
+          recorded = z.recorded;
+          registered = z.registered;
+          constraints_asked = z.constraints_asked;
+          goals_asked = z.goals_asked;
+          covers = λ since c p held. let k = z.covers since c p held in
+              (k.0, k.1, λ pair. k.2 (subst (λ s. AreBare s (n.ty p.1) (n.ty p.2)) (sym same_set) pair));
+          all = z.all;
+        },
+        just.1,
+      )
 
       same_aliases : HeldRelated i n now hs e → HeldRelated (seen_from j i) n now hs e
       same_aliases f = subst (λ k. WereRelated (solver_manner k) k n now (goals_of n hs) (n.param_env e) i.memory)
@@ -490,16 +498,19 @@ module _ {Key Id Name X : Type 0} (j i : Held Key) (gs hs : List (KeyedGoal Key 
           RecordsOf as_pair solver_manner (solving j gs m was L v e) (solving i hs n now K v e) (at v) a b r →
           RecordsOf as_pair solver_manner (solving j gs m was L v e) (solving (forgotten i) hs n now K v e) (at v) a b r
       records (Err f) just = tt
-      records (Ok t) just = λ promised bare. let z = just promised bare in record {
-        constraints = z.constraints;
-        goals = z.goals;
-        recorded = z.recorded;
-        registered = z.registered;
-        constraints_asked = z.constraints_asked;
-        goals_asked = z.goals_asked;
-        covers = λ since c p held. let l : held.0 < 0 = held.1 in absurd (omega (arith, l));
-        all = z.all;
-      }
+      records (Ok t) just = (
+        λ promised bare. let z = just.0 promised bare in record {
+          constraints = z.constraints;
+          goals = z.goals;
+          recorded = z.recorded;
+          registered = z.registered;
+          constraints_asked = z.constraints_asked;
+          goals_asked = z.goals_asked;
+          covers = λ since c p held. let l : held.0 < 0 = held.1 in absurd (omega (arith, l));
+          all = z.all;
+        },
+        just.1,
+      )
 
       verdict : (r : Result X (RelateFault Key Id Name)) →
           Verdict solver_manner (solving j gs m was L v e) (solving i hs n now K v e) ((h.passes).added) v a b tree r →
@@ -586,7 +597,13 @@ module _ {Key Id Name X : Type 0} {j j' : Held Key} (m n : Meaning Key Id Name) 
       Related solver_manner (solving j [] m was L v e) (solving j' hs n now K v e) v a b tree (Ok t) →
       IsJustAsked (items_of m) (m.param_env e) v a b was.constraints now.constraints (goals_of n hs)
   adds_just_asked t none bare h = just_asked (items_of m) (m.param_env e) v a b none refl
-      (same_environment (h.passes).kept) (h.records tt bare)
+      (same_environment (h.passes).kept) ((h.records).0 tt bare)
+
+  -- Of terms that are gone into nothing else was.
+  pub adds_no_more : (t : X) →
+      Related solver_manner (solving j [] m was L v e) (solving j' hs n now K v e) v a b tree (Ok t) →
+      AsksNoMore (solver_settings j.structurally_relate_aliases j.setup) (items_of m) was now v a b
+  adds_no_more t h = (h.records).1 tt
 
   goals_registered : (result : Result X (RelateFault Key Id Name)) →
       Related solver_manner (solving j [] m was L v e) (solving j' hs n now K v e) v a b tree result →

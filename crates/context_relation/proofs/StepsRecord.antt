@@ -1,4 +1,4 @@
--- A step of a relation over a context records of two bare terms just what they ask for.
+-- A step of a relation over a context records of two bare terms just what they ask for, and of others nothing else.
 use Rattle.std.proofs.Common.{◌≡◌, ◌≢◌, ◌⊎◌, ℕ, refl, sym, ap, ap₂, ◌∙◌, inl, inr, subst, subst₂, ⊎_elim, false, ◌||◌}
 use Rattle.std.proofs.Common.{Contains, IsTrue, Some, Result, Ok, Err, [], ◌∷◌, ◌++◌}
 use Rattle.std.proofs.lemmas.Bool.{false≢true}
@@ -43,6 +43,7 @@ use Rattle.relation_combining.specs.Combining.{resolved_first as consts_resolved
 use Rattle.relation_combining.specs.Solving.{solver_manner}
 use Rattle.context_relation.specs.Stepping.{StepsTys, RemembersTys, one_type, without_variables, resolved_first}
 use Rattle.context_relation.specs.Stepping.{met_again, combined, not_remembered}
+use Rattle.context_relation.proofs.StepsAsk.{tys_more, parts_lead, again_leads, consts_more, consts_parts_lead, consts_again_lead}
 use Rattle.relation_combining.specs.Variables.{one_has_variable}
 
 -- A plain term has no error, and no variable but of regions.
@@ -308,9 +309,16 @@ module _ {Key Id Name : Type 0} (r q : State Key Id Name) {n : ℕ} (g : Passes 
     pub tys_record : (result : Result (Step (TyKey Key)) (RelateFault Key Id Name)) →
         IsTerm type_sort ((r.meaning).ty a) → RemembersTys r q a b result → StepsTys r q a b result →
         StepRecords solver_manner r q (q.meaning).ty ((r.meaning).ty a) ((r.meaning).ty b) result
-    tys_record (Ok (Done t)) sa members h = λ promised bare. done_records sa promised bare t members h
-    tys_record (Ok (Parts x y)) sa members h = λ promised bare. parts_records sa promised bare x y members h
-    tys_record (Ok (Again k l x y v u)) sa members h = λ promised bare. never_again sa promised bare k l x y u v h
+    tys_record (Ok (Done t)) sa members h =
+        ((λ promised bare. done_records sa promised bare t members h), tys_more r q g a b ka kb t h)
+    tys_record (Ok (Parts x y)) sa members h = (
+      λ promised bare. parts_records sa promised bare x y members h,
+      λ promised. parts_lead r q g a b ka kb x y h,
+    )
+    tys_record (Ok (Again k l x y v u)) sa members h = (
+      λ promised bare. never_again sa promised bare k l x y u v h,
+      λ promised. again_leads r q g a b ka kb k l x y u v h,
+    )
     tys_record (Err f) sa members h = tt
 
   -- Of two constants, of which nothing is remembered.
@@ -426,7 +434,11 @@ module _ {Key Id Name : Type 0} (r q : State Key Id Name) {n : ℕ} (g : Passes 
 
     pub consts_record : (result : Result (Step (ConstKey Key)) (RelateFault Key Id Name)) → ConstsCombine r q a b result →
         StepRecords solver_manner r q (q.meaning).const_ ((r.meaning).const_ a) ((r.meaning).const_ b) result
-    consts_record (Ok (Done t)) h = λ promised bare. consts_done bare t h
-    consts_record (Ok (Parts u v)) h = λ promised bare. consts_parts bare u v h
-    consts_record (Ok (Again k l u v w t)) h = λ promised bare. consts_never_again bare k l u v t w h
+    consts_record (Ok (Done t)) h = ((λ promised bare. consts_done bare t h), consts_more r q g a b t h)
+    consts_record (Ok (Parts u v)) h =
+        ((λ promised bare. consts_parts bare u v h), (λ promised. consts_parts_lead r q g a b u v h))
+    consts_record (Ok (Again k l u v w t)) h = (
+      λ promised bare. consts_never_again bare k l u v t w h,
+      λ promised. consts_again_lead r q g a b sa decides k l u v t w h,
+    )
     consts_record (Err f) h = tt

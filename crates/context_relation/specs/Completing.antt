@@ -24,7 +24,7 @@ use Rattle.relation_semantics.specs.Agreeing.{Agree}
 use Rattle.relation_semantics.specs.Lawful.{items_of}
 use Rattle.relation_semantics.specs.Contexts.{Context}
 use Rattle.relation_semantics.specs.Asking.{Wanted, a_constraint, a_goal, AsksFor, IsPlainTerm, HasNoAlias, ArePlain}
-use Rattle.relation_semantics.specs.Recording.{AreBare, IsJustAsked}
+use Rattle.relation_semantics.specs.Recording.{AreBare, IsJustAsked, AsksNoMore}
 use Rattle.relation_semantics.specs.Steps.{HasNoBinder}
 use Rattle.relation_combining.specs.Solving.{solver_settings}
 use Rattle.context_relation.specs.Relating.{term_in}
@@ -105,6 +105,13 @@ module _ {S Key Id Name A : Type 0} (state : S → Context Key Id Name) (old new
   JustAsked g e v a b result = AreBare (solver_settings g (state old).setup) (term a) (term b) →
       IfOk result (λ goals. IsJustAsked (items_of (state old).meaning) (((state old).meaning).param_env e) v (term a)
       (term b) (state old).store.constraints (state new).store.constraints (goals_of (state new).meaning goals.items))
+
+  -- Of two without binders, and without aliases or where these are left to goals, as is all that was bound: where the
+  -- answer is `Ok`, each constraint that was added is one that they ask for, by what they come to then and later.
+  abbrev pub OnlyAsked : {X : Type 0} → StructurallyRelateAliases → Variance → A → A →
+      Result X (RelateFault Key Id Name) → Type 0
+  OnlyAsked g v a b result = IfOk result (λ x. AsksNoMore (solver_settings g (state old).setup)
+      (items_of (state old).meaning) (state old).store (state new).store v (term a) (term b))
 
   -- Of terms without variables, binders and aliases: where the answer is `Ok`, they are related under just those
   -- interpretations under which the constraints that they ask for hold.

@@ -33,6 +33,7 @@ use Rattle.context_relation.proofs.Constraints.{asked_in, asked_relates, asked_m
 use Rattle.relation_semantics.specs.Asking.{of_regions}
 use Rattle.relation_semantics.proofs.Asking.{regions_ask_one, region_asked}
 use Rattle.relation_semantics.proofs.Recording.{records_constraint}
+use Rattle.relation_semantics.proofs.AskingSince.{regions_no_more}
 use Rattle.relation_semantics.proofs.Standing.{made_of_term, term_within, term_sort_of}
 use Rattle.relation_semantics.proofs.Growing.{constraint_sound, constraint_is_later, constraint_bound, constraint_weight}
 use Rattle.relation_semantics.proofs.Growing.{constraint_holds, constraint_keeps}
@@ -202,10 +203,15 @@ module _ {Key Id Name : Type 0} (m : Meaning Key Id Name) where
       full = λ ha hb. full_by (goes v cs c of_store 0) (λ k. refl) (λ all. all);
       built = λ k ha hb all. builds_none k (plain_store m cs) (plain_store m (cs ++ c ∷ [])) all refl refl
           (λ o. record { entries = λ j i. refl; budget = refl }) (λ o b. refl);
-      records = λ promised bare. records_constraint (constraint_of m c) (stays_same m)
-          (map-append (constraint_of m) cs (c ∷ [])) refl refl refl refl
-          (of_regions (constraint_of m c) refl left_sort right_sort (region_asked m v a b c is))
-          (λ z w. regions_ask_one (constraint_of m c) left_sort (region_asked m v a b c is) w);
+      records = (
+        λ promised bare. records_constraint (constraint_of m c) (stays_same m)
+            (map-append (constraint_of m) cs (c ∷ [])) refl refl refl refl
+            (of_regions (constraint_of m c) refl left_sort right_sort (region_asked m v a b c is))
+            (λ z w. regions_ask_one (constraint_of m c) left_sort (region_asked m v a b c is) w),
+        λ promised. regions_no_more plain_settings (items_of m) (plain_store m cs) (plain_store m (cs ++ c ∷ [])) v
+            (m.region a) (m.region b) (constraint_of m c) left_sort right_sort (region_asked m v a b c is)
+            (map-append (constraint_of m) cs (c ∷ [])),
+      );
     }
       where
         left_sort : sort_of (m.region a) ≡ region_sort

@@ -1,11 +1,16 @@
 -- Constants, value trees and patterns, at one variance and at another.
-use Rattle.std.proofs.Common.{◌≡◌, ◌≢◌, ◌⊎◌, ℕ, refl, sym, ◌∙◌, inl, inr, subst, [], ◌∷◌, None, Some}
+use Rattle.std.proofs.Common.{◌≡◌, ◌≢◌, ◌⊎◌, ◌<◌, ℕ, zero, suc, refl, sym, ◌∙◌, inl, inr, subst, arith, [], ◌∷◌, None, Some}
 use Rattle.term_enums.specs.declared.Variance.{Variance}
 use Rattle.term_enums.specs.declared.Variance.TheVariants.{Covariant, Contravariant, Invariant, Bivariant}
 use Rattle.term_enums.specs.Variances.{xform}
 use Rattle.relation_terms.specs.Heads.{Sort, region_sort, type_sort, const_sort, value_sort, value_type_sort, pattern_sort, Admits, Part, term_of, binder_of, Shape, one, row, head_parts, head_sort, leaf_sort, Head, unevaluated, expression, value, value_type, value_branch, range_pattern, or_pattern}
-use Rattle.relation_terms.specs.Trees.{Tree, leaf, node, bind, nil, cons, Fits, IsTerm}
-use Rattle.relation_semantics.specs.Relation.{Items, Interpretation, parts, Rel, at, same, anything, error_left, error_right, regions, alias_types, equal_consts, atoms, forms, no_parts, next_part, covariant_binders, contravariant_binders, invariant_binders, part_at, sort_of}
+use Rattle.relation_terms.specs.Trees.{Tree, leaf, node, bind, nil, cons, Fits, IsTerm, count, nth}
+use Rattle.relation_semantics.specs.Relation.{Items, Interpretation, plain, IsRelatedHead, parts, Rel, at, same, anything, error_left, error_right, regions, alias_types, equal_consts, atoms, forms, no_parts, next_part, covariant_binders, contravariant_binders, invariant_binders, part_at, sort_of}
+use Rattle.term_enums.specs.declared.AliasRelationDirection.TheVariants.{Equate}
+use Rattle.relation_semantics.specs.Stores.{Constraint}
+use Rattle.relation_semantics.specs.Goals.{alias_relate_predicate}
+use Rattle.relation_semantics.specs.Asking.{Wanted, a_constraint, a_goal, HaveAlias, AsksFor, of_regions, of_aliases}
+use Rattle.relation_semantics.specs.Asking.{of_unevaluated, of_parts}
 use Rattle.relation_combining.specs.ConstantLaws.{IsConstantSort, ConstantsAtEachVariance}
 
 -- What stands where one of these is asked for is one.
@@ -112,3 +117,50 @@ mutual
 
 pub constants_at_each_variance : ConstantsAtEachVariance
 constants_at_each_variance c w e v v' s a b k h n m r = alike s k h n m r
+
+-- A part of such a form is such a term.
+pub record IsConstantTerm (t : Tree) : Type 0 where
+  pub sort : Sort
+  pub constant : IsConstantSort sort
+  pub fits : IsTerm sort t
+
+constant_nth : (x : Shape) → AreConstantParts x → (ts : Tree) → Fits x ts → (i : ℕ) → i < count ts →
+    IsConstantTerm (nth i ts)
+constant_nth (row [] (Some (term_of s))) o (cons t ts) f zero l = record { sort = s; constant = o; fits = f.0 }
+constant_nth (row [] (Some (term_of s))) o (cons t ts) f (suc i) l =
+    constant_nth (row [] (Some (term_of s))) o ts f.1 i (omega (arith, l))
+constant_nth (row (term_of s ∷ ps) p) o (cons t ts) f zero l = record { sort = s; constant = o.0; fits = f.0 }
+constant_nth (row (term_of s ∷ ps) p) o (cons t ts) f (suc i) l =
+    constant_nth (row ps p) o.1 ts f.1 i (omega (arith, l))
+constant_nth (row [] (Some (binder_of s))) o (cons t ts) f i l = absurd o
+constant_nth (row (binder_of s ∷ ps) p) o (cons t ts) f i l = absurd o.0
+constant_nth (row [] None) o (cons t ts) f i l = absurd f
+constant_nth (one p) o (cons t ts) f i l = absurd o
+constant_nth x o (leaf z) f i l = absurd (omega (arith, l))
+constant_nth x o (node h ts) f i l = absurd (omega (arith, l))
+constant_nth x o (bind ks t) f i l = absurd (omega (arith, l))
+constant_nth x o nil f i l = absurd (omega (arith, l))
+
+-- They ask for the same constraints at each variance too: so where the parts of two do, the two do.
+part_asked : {c : Items} {z : Wanted} {h k : Head} {a b ts us : Tree} (v v' : Variance) (i : ℕ) → a ≡ node h ts →
+    b ≡ node k us → (HaveAlias a b → ⊥) → IsRelatedHead h → plain h ≡ plain k → i < count ts → i < count us →
+    Fits (head_parts h) ts → AsksFor c z (part_at c h i v) (nth i ts) (nth i us) → ((w : Variance) (s : Sort) →
+    IsConstantSort s → IsTerm s (nth i ts) → part_at c h i v ≢ Bivariant → w ≢ Bivariant →
+    AsksFor c z w (nth i ts) (nth i us)) → PartsStay c h (head_parts h) v v' → AsksFor c z v' a b
+part_asked {c = c} {z = z} {ts = ts} {us = us} v v' i d g o rh pl l j f r again (inl x) =
+    of_parts i d g o rh pl l j (subst (λ w. AsksFor c z w (nth i ts) (nth i us)) (x i) r)
+part_asked {c = c} {h = h} {ts = ts} v v' i d g o rh pl l j f r again (inr p) =
+    let t = constant_nth (head_parts h) p.0 ts f i l in
+    of_parts i d g o rh pl l j (again (part_at c h i v') t.sort t.constant t.fits (p.1 i) (p.2 i))
+
+pub constants_ask : {c : Items} {z : Wanted} {v : Variance} {a b : Tree} (v' : Variance) (s : Sort) (q : Constraint) →
+    IsConstantSort s → IsTerm s a → v ≢ Bivariant → v' ≢ Bivariant → z ≡ a_constraint q → AsksFor c z v a b →
+    AsksFor c z v' a b
+constants_ask {a = a} v' s q k f n m e (of_regions p w x y r) = absurd (no_region s a k f x)
+constants_ask v' s q k f n m e (of_aliases p w l d x r) = absurd (let u : a_goal p ≡ a_constraint q = sym w ∙ e in cc)
+constants_ask {a = a} {b = b} v' s q k f n m e (of_unevaluated w l d x y) =
+    absurd (let u : a_goal (alias_relate_predicate Equate a b) ≡ a_constraint q = sym w ∙ e in cc)
+constants_ask {c = c} {v = v} v' s q k f n m e (of_parts {h = h} {ts = ts} i d g o rh pl l j r) =
+    let fits : IsTerm s (node h ts) = subst (IsTerm s) d f in
+    part_asked v v' i d g o rh pl l j fits.1 r (λ w x o' p' n' m'. constants_ask w x q o' p' n' m' e r)
+    (parts_stay c h v v' (admitted s (head_sort h) k fits.0) n m)

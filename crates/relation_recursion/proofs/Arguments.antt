@@ -38,6 +38,7 @@ use Rattle.relation_semantics.proofs.RecordingForms.{bare_parts}
 use Rattle.relation_steps.proofs.Fronts.{Fronted, AreParts, IsLookedAt, fronted_all, fronted_never, fronted_passes, fronted_fault, fronted_exactly, fronted_needs}
 use Rattle.relation_steps.proofs.Fronts.{fronted_full, fronted_built, fronted_agree, fronted_keeps}
 use Rattle.relation_semantics.proofs.Keeping.{one_inside, one_so_far, unified_inside}
+use Rattle.relation_semantics.proofs.AskingSince.{form_asks_since, parts_no_more}
 use Rattle.relation_semantics.proofs.Answering.{same_items, may_itself}
 use Rattle.relation_semantics.proofs.OneUniverse.{keeps_binds, binds_as}
 use Rattle.relation_recursion.proofs.Unifying.{first_order_parts, one_head, answered_as, refused_by}
@@ -195,8 +196,14 @@ module _ {Key Id Name : Type 0} {r q : State Key Id Name} (M : Manners) (v : Var
         (fronted_exactly h v i ts us are e (e ∙ n) f exact is' looked (list_pair pair));
     full = f.full;
     built = λ j ha hb. f.built j ha.1 hb.1;
-    records = λ promised bare. front_ends (items_in r) h k v i ts us normal is alike e (e ∙ n)
-        (f.records promised (bare_parts r.kept.settings (node h ts) (node k us) bare));
+    records = (
+      λ promised bare. front_ends (items_in r) h k v i ts us normal is alike e (e ∙ n)
+          (f.records promised (bare_parts r.kept.settings (node h ts) (node k us) bare)),
+      λ promised. parts_no_more r.kept.settings (items_in r) r.store q.store v h i (node h ts) (node k us) ts us
+          (λ z p. form_asks_since (items_in r) q.store z v h k ts us p.0 are.left_list are.right_list normal is alike
+          (subst (λ m. p.0 < m) e p.1) (subst (λ m. p.0 < m) (e ∙ n) p.1) p.2) (λ j ha. ha.1) (λ j hb. hb.1)
+          (f.no_more promised),
+    );
   }
 
   -- What made the parts one made the forms one.

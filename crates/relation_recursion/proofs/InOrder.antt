@@ -28,13 +28,14 @@ use Rattle.relation_semantics.specs.Lawful.{items_in}
 use Rattle.relation_semantics.proofs.Deferring.{said_as, parts_not_left, form_not_left, by_parts_normal, one_form_normal}
 use Rattle.relation_semantics.proofs.Recording.{records_as}
 use Rattle.relation_semantics.proofs.RecordingForms.{bare_parts, form_asks, asks_form}
-use Rattle.relation_semantics.specs.Lawful.{RecordsJustAsked, RecordsAs}
+use Rattle.relation_semantics.specs.Lawful.{RecordsJustAsked, RecordsNoMore, RecordsAs}
 use Rattle.relation_semantics.specs.Lawful.{ExactResult, ExactlyRelated}
 use Rattle.relation_semantics.proofs.Registered.{registered_in}
 use Rattle.relation_semantics.proofs.Passing.{passes_within, passes_then, manner_then, stopped}
 use Rattle.relation_steps.proofs.Fronts.{Fronted, AreParts, fronted_never, fronted_all, fronted_passes, fronted_fault, fronted_needs}
 use Rattle.relation_steps.proofs.Fronts.{fronted_keeps}
 use Rattle.relation_semantics.proofs.Keeping.{one_so_far, unified_inside}
+use Rattle.relation_semantics.proofs.AskingSince.{form_no_more}
 use Rattle.relation_steps.proofs.Fronts.{fronted_exactly, fronted_full, fronted_built, fronted_agree}
 use Rattle.relation_semantics.proofs.Building.{built_parts}
 use Rattle.relation_semantics.proofs.AgreeingForms.{form_agrees}
@@ -137,9 +138,13 @@ module _ {Key Id Name : Type 0} {r q : State Key Id Name} (M : Manners) (v : Var
           (λ h ts d. term_related h ts (subst IsByParts d form)) w)
           (f.records promised (bare_parts r.kept.settings a b bare))
 
+      more : RecordsNoMore M r q v a b
+      more promised = form_no_more r.kept.settings (items_in r) r.store q.store v a b i normal are.left_list
+          are.right_list ea eb (λ h ts d. term_related h ts (subst IsByParts d form)) o (f.no_more promised)
+
       records : (w : Meeting) → RecordsAs w M r q (at v) a b
-      records as_pair = just
-      records as_forms = λ none. just
+      records as_pair = (just, more)
+      records as_forms = λ none. (just, more)
 
   -- After some of the parts it is seen that the two are not of one form.
   pub terms_unlike : {X : Type 0} {w : Meeting} (tree : X → Tree) (k l : Sort) (e : TypeError Key Id Name) → v ≢ Bivariant →

@@ -35,6 +35,7 @@ use Rattle.relation_semantics.proofs.Building.{built_led, built_then, needs_led}
 use Rattle.relation_semantics.proofs.Answering.{may_itself, same_items, same_settings}
 use Rattle.relation_semantics.proofs.Composing.{steps_compose, values_still, agree_through}
 use Rattle.relation_semantics.proofs.Keeping.{one_inside, one_led, one_of_all, one_outcome, one_then_all}
+use Rattle.relation_semantics.proofs.AskingSince.{built_unbound_term}
 use Rattle.relation_semantics.proofs.Opening.{two_rounds_relate}
 use Rattle.relation_semantics.proofs.Passing.{passes_then, manner_then, stopped, asked_later, outcome_seen}
 use Rattle.relation_terms.proofs.Paths.{kinds_path, bind_path}
@@ -364,7 +365,10 @@ module _ {Key Id Name : Type 0} where
     exact = λ j is pair. absurd (never (first_order_plain a pair.left));
     full = full_never a b never;
     built = built_then (h.passes).added (o.passes).added a b h.built o.built;
-    records = λ promised bare. absurd (never bare.left_unbound);
+    records = (
+      λ promised bare. absurd (never bare.left_unbound),
+      λ promised j gone ha hb all. absurd (never (built_unbound_term j gone.0 a ha)),
+    );
   }
     where
       whole : Begun (items_in r) r.kept.environment r.ambient r.store p.store r.goals (h.passes).added a b →
@@ -526,7 +530,10 @@ module _ {Key Id Name : Type 0} where
       exact = λ j is pair. absurd (never (first_order_plain a pair.left));
       full = full_never a b never;
       built = second_built f.passes f.built;
-      records = λ promised bare. absurd (never bare.left_unbound);
+      records = (
+        λ promised bare. absurd (never bare.left_unbound),
+        λ promised j gone ha hb all. absurd (never (built_unbound_term j gone.0 a ha)),
+      );
     }
 
   -- The bodies that a round leads to are less deep than the binders, in round 0 and in round 1.

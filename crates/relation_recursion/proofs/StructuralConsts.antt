@@ -31,7 +31,7 @@ use Rattle.relation_semantics.specs.Parts.{IsFormed, IsFormedConst, const_parts_
 use Rattle.part_variances.specs.Handing.{IsPassedOnConst, IsFaultOfConst, passed_const, whole}
 use Rattle.relation_semantics.specs.Lawful.{State, Manners, MayAnswer, Passes, Refuses, RefusesAs, Related}
 use Rattle.relation_semantics.specs.Lawful.{RelatedAs, RelatedForms, ExactResult, ExactlyRelated, items_in}
-use Rattle.relation_semantics.specs.Lawful.{RecordsJustAsked, RecordsAs}
+use Rattle.relation_semantics.specs.Lawful.{RecordsJustAsked, RecordsNoMore, RecordsAs}
 use Rattle.relation_semantics.specs.Asking.{IsPlainTerm}
 use Rattle.relation_semantics.specs.Recording.{AreBare}
 use Rattle.relation_semantics.proofs.Asking.{itself_is_trivial}
@@ -43,6 +43,7 @@ use Rattle.relation_steps.proofs.Fronts.{Fronted, AreParts, fronted_never, front
 use Rattle.relation_semantics.proofs.Building.{built_itself, built_const_parts}
 use Rattle.relation_steps.proofs.Fronts.{fronted_agree, fronted_keeps}
 use Rattle.relation_semantics.proofs.Keeping.{one_so_far, unified_inside}
+use Rattle.relation_semantics.proofs.AskingSince.{const_no_more, no_more_same}
 use Rattle.relation_semantics.proofs.Agreeing.{agree_same, agree_flexible}
 use Rattle.relation_semantics.specs.Agreeing.{IsFlexible}
 use Rattle.relation_semantics.proofs.AgreeingForms.{const_agrees}
@@ -314,9 +315,13 @@ module _ {Key Id Name : Type 0} {r q : State Key Id Name} (M : Manners) (v : Var
         (const_looked_at a) (const_parts_pair r.store a b pair));
     full = λ ha hb. f.full (const_parts_plain a ha) (const_parts_plain b hb);
     built = λ k ha hb. f.built k (built_const_parts k a ha) (built_const_parts k b hb);
-    records = λ none promised bare. records_as (λ z w. const_asks (items_in r) v a b i none z ea eb o w)
-        (λ z w. asks_const (items_in r) v a b i none z ea eb o w)
-        (f.records promised (bare_const_parts r.kept.settings a b bare));
+    records = λ none. (
+      λ promised bare. records_as (λ z w. const_asks (items_in r) v a b i none z ea eb o w)
+          (λ z w. asks_const (items_in r) v a b i none z ea eb o w)
+          (f.records promised (bare_const_parts r.kept.settings a b bare)),
+      λ promised. const_no_more r.kept.settings (items_in r) r.store q.store v a b i none are.left_list are.right_list ea
+          eb o (f.no_more promised),
+    );
   }
 
 -- Terms of one of the three sorts of arguments are of one sort.
@@ -361,9 +366,12 @@ module _ {Key Id Name : Type 0} {X : Type 0} (M : Manners) (r : State Key Id Nam
       just : RecordsJustAsked M r r v a b
       just promised bare = records_trivial (stands_itself r) refl (λ z asks. itself_is_trivial asks e)
 
+      more : RecordsNoMore M r r v a b
+      more promised = no_more_same r.kept.settings (items_in r) r.store r.store v a b refl
+
       records : (w : Meeting) → RecordsAs w M r r (at v) a b
-      records as_pair = just
-      records as_forms = λ none. just
+      records as_pair = (just, more)
+      records as_forms = λ none. (just, more)
 
   -- An error with a term of its sort: nothing happens, and the error is the answer.
   module _ (k : Sort) (a b : Tree) (x : X) (top : AtTop k k) (ia : IsTermIn r.store a) (ib : IsTermIn r.store b)
@@ -400,7 +408,10 @@ module _ {Key Id Name : Type 0} {X : Type 0} (M : Manners) (r : State Key Id Nam
       exact = λ exact is' pair. absurd (not_first is pair);
       full = λ ha hb. full_itself r.store;
       built = built_itself r.store a b;
-      records = λ none promised bare. absurd (not_plain is bare);
+      records = λ none. (
+        λ promised bare. absurd (not_plain is bare),
+        λ promised. no_more_same r.kept.settings (items_in r) r.store r.store v a b refl,
+      );
     }
       where
         not_plain : IsError a ⊎ IsError b → AreBare r.kept.settings a b → ⊥

@@ -34,6 +34,7 @@ use Rattle.relation_steps.proofs.Fronts.{Fronted, AreParts, fronted_never, front
 use Rattle.relation_semantics.proofs.Building.{built_parts}
 use Rattle.relation_steps.proofs.Fronts.{fronted_agree, fronted_keeps}
 use Rattle.relation_semantics.proofs.Keeping.{one_inside, one_so_far, unified_inside}
+use Rattle.relation_semantics.proofs.AskingSince.{form_no_more}
 use Rattle.relation_semantics.proofs.AgreeingForms.{form_agrees}
 use Rattle.relation_semantics.proofs.Full.{parts_plain}
 use Rattle.relation_recursion.proofs.Unifying.{first_order_parts, formed_looked_at, types_unify, answered_as, refused_as}
@@ -322,7 +323,11 @@ module _ {Key Id Name : Type 0} {r q : State Key Id Name} (M : Manners) (v : Var
         (formed_looked_at a is_formed) (parts_pair r.store a b pair));
     full = λ ha hb. f.full (parts_plain a ha) (parts_plain b hb);
     built = λ k ha hb. f.built k (built_parts k a ha) (built_parts k b hb);
-    records = λ none promised bare. records_as (λ z w. form_asks (items_in r) v a b i none z ea eb o w)
-        (λ z w. asks_form (items_in r) v a b i none z ea eb o (λ h ts d. related_head h (subst IsFormed d is_formed)) w)
-        (f.records promised (bare_parts r.kept.settings a b bare));
+    records = λ none. (
+      λ promised bare. records_as (λ z w. form_asks (items_in r) v a b i none z ea eb o w)
+          (λ z w. asks_form (items_in r) v a b i none z ea eb o (λ h ts d. related_head h (subst IsFormed d is_formed)) w)
+          (f.records promised (bare_parts r.kept.settings a b bare)),
+      λ promised. form_no_more r.kept.settings (items_in r) r.store q.store v a b i none are.left_list are.right_list ea eb
+          (λ h ts d. related_head h (subst IsFormed d is_formed)) o (f.no_more promised),
+    );
   }

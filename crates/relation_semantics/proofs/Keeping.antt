@@ -8,7 +8,7 @@ use Rattle.relation_terms.specs.Heads.{static_region, const_param, atom}
 use Rattle.relation_terms.specs.Trees.{Tree, leaf, Assign, IsList, nth}
 use Rattle.relation_terms.specs.Erasure.{erase}
 use Rattle.relation_semantics.specs.Relation.{Items, Way, at, parts}
-use Rattle.relation_semantics.specs.Stores.{Store, IsMade, InContext, IsSound, Satisfies, universe_of}
+use Rattle.relation_semantics.specs.Stores.{Store, IsMade, InContext, IsSound, universe_of}
 use Rattle.relation_semantics.specs.Goals.{Goal}
 use Rattle.relation_semantics.specs.FirstOrder.{Unifies, IsErasedSolution}
 use Rattle.relation_semantics.specs.Steps.{IsLater, IsNumberKind, AgreeOn, HasErasedExtension, ChangesNothing}

@@ -49,4 +49,5 @@ pub mod AliasOutcomes
 pub mod AliasSteps
 pub mod Asking
 pub mod Recording
+pub mod AskingSince
 pub mod RecordingForms

@@ -18,7 +18,7 @@ use Rattle.relation_semantics.specs.declared.relate.Step.TheVariants.{Done, Part
 use Rattle.relation_folds.specs.Faults.{KnowsError}
 use Rattle.relation_semantics.specs.Errors.{ErrorOf, by_forms, IsDeferred, Meeting, as_pair, as_forms}
 use Rattle.relation_semantics.specs.Asking.{Wanted, AsksFor}
-use Rattle.relation_semantics.specs.Recording.{AreBare}
+use Rattle.relation_semantics.specs.Recording.{AreBare, AsksNoMore, LeadsAsking}
 use Rattle.relation_semantics.specs.Agreeing.{Agree}
 use Rattle.relation_semantics.specs.Stores.{Store, IsSound, Satisfies, all_bound, weight}
 use Rattle.relation_semantics.specs.Goals.{Goal, GoalInContext, IsDirected, Holds, Relates, Request, asked, asks_too_much, asks_nothing, IsQuiet, AsksNoPair, HasOneTree, MakesOneTree}
@@ -30,13 +30,14 @@ use Rattle.relation_semantics.specs.Alphabets.{StaysBuilt, BuiltFrom, NeedsVaria
 use Rattle.relation_semantics.specs.Measures.{grown, Goes}
 use Rattle.relation_semantics.specs.Lawful.{State, Manner, Manners, Takes, MayAnswer, Passes, Asked, Refuses, Answers, Verdict, Related, Leads}
 use Rattle.relation_semantics.specs.Lawful.{RefusesAs, VerdictAs, RelatedAs, RelatedForms, Pair, MeansPair}
-use Rattle.relation_semantics.specs.Lawful.{RecordsJust, RecordsJustAsked, RecordsAs, RecordsOf}
+use Rattle.relation_semantics.specs.Lawful.{RecordsJust, RecordsJustAsked, RecordsNoMore, RecordsAs, RecordsOf}
 use Rattle.relation_semantics.proofs.Asking.{nothing_at_bivariance}
 use Rattle.relation_semantics.proofs.Recording.{bare_no_alias, stands_itself, turned_stands, grown_stands, records_trivial}
 use Rattle.relation_semantics.proofs.Recording.{records_as, records_then, records_between, records_remembering}
 use Rattle.relation_semantics.specs.Lawful.{ExactResult, ExactlyRelated, RegisteredIn}
 use Rattle.relation_semantics.proofs.Exactness.{exact_steps_compose}
 use Rattle.relation_semantics.proofs.Keeping.{one_outcome, one_led, unified_led}
+use Rattle.relation_semantics.proofs.AskingSince.{gone_into, no_more_led, no_more_same}
 use Rattle.relation_semantics.specs.Lawful.{LeadsToParts, LeadsAgain, Shown, Noted, Turned, Stepped, OnlyMemory, WithMeaning, declared_by, items_of, items_in}
 use Rattle.relation_semantics.proofs.Registered.{registered_in, registered_both, registered_as}
 use Rattle.relation_semantics.proofs.Going.{goes_nowhere, goes_within, goes_then, le_grown, later_itself, later_through}
@@ -261,7 +262,10 @@ module _ {Key Id Name : Type 0} where
     where
       records : (res : Result X (RelateFault Key Id Name)) → RecordsOf as_forms M r q (at v) a b res →
           RecordsOf as_pair M r q (at v) a b res
-      records (Ok t) h = λ promised bare. h (bare_no_alias r.kept.settings a b bare n) promised bare
+      records (Ok t) h = (
+        λ promised bare. (h (bare_no_alias r.kept.settings a b bare n)).0 promised bare,
+        λ promised k gone ha hb all. (h (gone_into r.kept.settings k a b gone ha hb n)).1 promised k gone ha hb all,
+      )
       records (Err e) h = tt
 
       verdict : (res : Result X (RelateFault Key Id Name)) → VerdictAs as_forms M r q (f.passes).added (at v) a b tree res →
@@ -288,13 +292,21 @@ module _ {Key Id Name : Type 0} where
       to z (inl o) = absurd o
       to z (inr w) = subst₂ (AsksFor (items_in r) z v) e d (subst (λ c. AsksFor c z v x y) (same_items g) w)
 
+  -- No more than what is asked for was recorded, by the settings and the items of a state before.
+  pub seen_no_more : {n : ℕ} {r q : State Key Id Name} (before after : Store) (v : Variance) (x y : Tree) →
+      Passes n r q → AsksNoMore q.kept.settings (items_in q) before after v x y →
+      AsksNoMore r.kept.settings (items_in r) before after v x y
+  seen_no_more before after v x y g f =
+      subst₂ (λ k c. AsksNoMore k c before after v x y) (same_settings g.kept) (same_items g) f
+
   -- The two forms to which a step led were related by their parts.
   pub parts_related : {X : Type 0} {r q p : State Key Id Name} (M : Manners) (F : Tree → Type 0) → IsSound p.store →
       (a b x y : Tree) (tree : X → Tree) (result : Result X (RelateFault Key Id Name))
       (g : Passes (weight r.store a + weight r.store b) r q) → LeadsToParts M F r q g.added a b x y →
       LeadsExactly M r q a b x y → StaysFullFor r.store q.store a b → StaysBuilt r.store q.store g.added a b →
       ((M r.kept.settings).records_asked → AreBare r.kept.settings a b → (x ≡ a) × (y ≡ b) ×
-      RecordsJust (λ z. ⊥) r q) → RelatedForms M q p r.ambient x y tree result → Related M r p r.ambient a b tree result
+      RecordsJust (λ z. ⊥) r q) × ((M r.kept.settings).records_asked → LeadsAsking r.kept.settings (items_in r) r.store
+      q.store r.ambient a b r.ambient x y) → RelatedForms M q p r.ambient x y tree result → Related M r p r.ambient a b tree result
   unfolding passes_then
   parts_related {X} {r} {q} {p} M F sound a b x y tree result g l exactly full built itself f = record {
     passes = passes_then g f.passes small;
@@ -308,11 +320,18 @@ module _ {Key Id Name : Type 0} where
     where
       records : (res : Result X (RelateFault Key Id Name)) → RecordsOf as_forms M q p (at r.ambient) x y res →
           RecordsOf as_pair M r p (at r.ambient) a b res
-      records (Ok t) h = λ promised bare.
-          let i = itself promised bare in
-          let pair = bare_led g a b x y i.0 i.1 bare in
-          records_led g f.passes r.ambient a b x y i.0 i.1 i.2 (h (bare_no_alias q.kept.settings x y pair l.not_left)
-          (manner_then M (λ z. z.records_asked) g promised) pair)
+      records (Ok t) h = (
+        λ promised bare.
+            let i = itself.0 promised bare in
+            let pair = bare_led g a b x y i.0 i.1 bare in
+            records_led g f.passes r.ambient a b x y i.0 i.1 i.2 ((h (bare_no_alias q.kept.settings x y pair
+            l.not_left)).0 (manner_then M (λ z. z.records_asked) g promised) pair),
+        λ promised. no_more_led r.kept.settings (items_in r) r.store q.store p.store r.ambient r.ambient a b x y g.added
+            ((f.passes).goes).later (itself.1 promised) built l.built
+            (seen_no_more q.store p.store r.ambient x y g (λ k gone ha hb all.
+            (h (gone_into q.kept.settings k x y gone ha hb l.not_left)).1
+            (manner_then M (λ z. z.records_asked) g promised) k gone ha hb all)),
+      )
       records (Err e) h = tt
 
       small : weight q.store x + weight q.store y ≤ grown (g.goes).spent (weight r.store a + weight r.store b)
@@ -347,7 +366,8 @@ module _ {Key Id Name : Type 0} where
         (sym one_spent) led.not_larger
 
     pub again_related : {X Y : Type 0} {p : State Key Id Name} (tree : X → Tree) (t : X) (answer : Y → Tree) (z : Y) → answer z ≡ u →
-        ((M r.kept.settings).records_asked → AreBare r.kept.settings a b → ⊥) →
+        ((M r.kept.settings).records_asked → AreBare r.kept.settings a b → ⊥) × ((M r.kept.settings).records_asked →
+        LeadsAsking r.kept.settings (items_in r) r.store q.store r.ambient a b (xform r.ambient v) x y) →
         Related M q p (xform r.ambient v) x y tree (Ok t) → Related M r p r.ambient a b answer (Ok z)
     unfolding passes_then
     again_related {Y = Y} {p = p} tree t answer z e never f = record {
@@ -368,7 +388,13 @@ module _ {Key Id Name : Type 0} where
           (Ok t)) g f.exact);
       full = λ ha hb. full_could led.may_instantiate;
       built = built_led g.added (f.passes).added a b x y built led.built f.built;
-      records = λ promised bare. absurd (never promised bare);
+      records = (
+        λ promised bare. absurd (never.0 promised bare),
+        λ promised. no_more_led r.kept.settings (items_in r) r.store q.store p.store r.ambient (xform r.ambient v) a b x y
+            g.added ((f.passes).goes).later (never.1 promised) built led.built
+            (seen_no_more q.store p.store (xform r.ambient v) x y g
+            ((f.records).1 (manner_then M (λ z. z.records_asked) g promised))),
+      );
     }
 
     pub again_refused : {X Y : Type 0} {p : State Key Id Name} → IsSound p.store → (tree : X → Tree) (answer : Y → Tree)
@@ -461,6 +487,10 @@ module _ {Key Id Name : Type 0} where
               (same_items h.passes ∙ same_items f.passes) asks)),
         )
 
+    noted_no_more : RecordsNoMore M r q v a b → RecordsNoMore M r p v a b
+    noted_no_more just promised =
+        subst (λ s. AsksNoMore r.kept.settings (items_in r) r.store s v a b) (sym h.store) (just promised)
+
     pub noted_related : (answer : X → Tree) → answer t ≡ tree t → ((M r.kept.settings).records_asked →
         AreBare r.kept.settings a b → (x ≡ a) × (y ≡ b) × (q.ambient ≡ v)) →
         RelatedAs w M r p (at v) a b answer (Ok t)
@@ -484,8 +514,8 @@ module _ {Key Id Name : Type 0} where
     }
       where
         records : (w : Meeting) → RecordsAs w M r q (at v) a b → RecordsAs w M r p (at v) a b
-        records as_pair just = noted_records same just
-        records as_forms just = λ none. noted_records same (just none)
+        records as_pair just = (noted_records same just.0, noted_no_more just.1)
+        records as_forms just = λ none. (noted_records same (just none).0, noted_no_more (just none).1)
 
     pub noted_refused : {Z : Type 0} (answer : Z → Tree) (e : RelateFault Key Id Name) → note ≡ Err e →
         RelatedAs {X = Z} w M r p (at v) a b answer (Err e)
@@ -568,10 +598,15 @@ module _ {Key Id Name : Type 0} where
       where
         records : (res : Result X (RelateFault Key Id Name)) → RecordsOf as_pair M t q (at v) a b res →
             RecordsOf as_pair M r u (at v) a b res
-        records (Ok x) just = λ promised bare. subst (λ m. RecordsJust (λ z. AsksFor (items_of m) z v a b) r u) there.meaning
-            (records_between (turned_stands there) there.remembered (turned_stands back) back.remembered
-            (just (subst (λ j. (M j).records_asked) (sym (same_settings there.kept)) promised)
-            (subst (λ j. AreBare j a b) (sym (same_settings there.kept)) bare)))
+        records (Ok x) just = (
+          λ promised bare. subst (λ m. RecordsJust (λ z. AsksFor (items_of m) z v a b) r u) there.meaning
+              (records_between (turned_stands there) there.remembered (turned_stands back) back.remembered
+              (just.0 (subst (λ j. (M j).records_asked) (sym (same_settings there.kept)) promised)
+              (subst (λ j. AreBare j a b) (sym (same_settings there.kept)) bare))),
+          λ promised. subst₂ (λ s z. AsksNoMore r.kept.settings (items_in r) s z v a b) there.store (sym back.store)
+              (subst₂ (λ j m. AsksNoMore j (items_of m) t.store q.store v a b) (same_settings there.kept) there.meaning
+              (just.1 (subst (λ j. (M j).records_asked) (sym (same_settings there.kept)) promised))),
+        )
         records (Err e) just = tt
 
         verdict : (res : Result X (RelateFault Key Id Name)) → Verdict M t q (f.passes).added v a b tree res →
@@ -599,7 +634,10 @@ module _ {Key Id Name : Type 0} where
     exact = λ k is pair. absurd (invariant_is_not (sym is ∙ e));
     full = λ ha hb. full_itself r.store;
     built = built_itself r.store a b;
-    records = λ promised bare. records_trivial (stands_itself r) refl (λ z asks. absurd (nothing_at_bivariance asks e));
+    records = (
+      λ promised bare. records_trivial (stands_itself r) refl (λ z asks. absurd (nothing_at_bivariance asks e)),
+      λ promised. no_more_same r.kept.settings (items_in r) r.store r.store v a b refl,
+    );
   }
 
   -- Nothing was noted.
@@ -668,9 +706,13 @@ module _ {Key Id Name : Type 0} where
         just g promised bare =
             records_between (stands_itself r) refl (grown_stands e w) w.remembered (g promised bare)
 
+        more : RecordsNoMore M r q v a b → RecordsNoMore M r p v a b
+        more g promised =
+            subst (λ s. AsksNoMore r.kept.settings (items_in r) r.store s v a b) (sym w.store) (g promised)
+
         records : (x : Meeting) → RecordsAs x M r q (at v) a b → RecordsAs x M r p (at v) a b
-        records as_pair g = just g
-        records as_forms g = λ none. just (g none)
+        records as_pair g = (just g.0, more g.1)
+        records as_forms g = λ none. (just (g none).0, more (g none).1)
 
     -- Or it could not be made.
     pub made_or_not : (tree : X → Tree) (t : X) → RelatedAs x M r q (at v) a b tree (Ok t) →
@@ -710,8 +752,8 @@ module _ {Key Id Name : Type 0} where
 
   -- A step that answers.
   pub step_done : {K : Type 0} {r q : State Key Id Name} (M : Manners) (F : Tree → Type 0) (a b : Tree) (tree : K → Tree)
-      (t : K) → Stepped M F r q a b tree (Ok (Done t)) → RecordsJustAsked M r q r.ambient a b →
-      Related M r q r.ambient a b tree (Ok t)
+      (t : K) → Stepped M F r q a b tree (Ok (Done t)) →
+      RecordsJustAsked M r q r.ambient a b × RecordsNoMore M r q r.ambient a b → Related M r q r.ambient a b tree (Ok t)
   step_done M F a b tree t s just = record {
     passes = s.passes;
     verdict = s.verdict;

@@ -23,7 +23,7 @@
 --   Noted r q a b result                  something was noted of two terms, which asks nothing of them
 --   Covers since r                        what it remembers asks for what stands among these constraints and its goals
 --   RecordsJust A r q                     just what A says was recorded and registered
---   RecordsJustAsked M r q v a b          of two bare terms just what they ask for was
+--   RecordsJustAsked, RecordsNoMore       of two bare terms just what they ask for was; of others no more than that
 --   StepRecords M r q tree a b result     so it was by a step
 use Rattle.std.specs.Prelude.{◌≡◌, ◌⊎◌, ℕ, suc, ◌+◌, ◌≤◌, List, [], ◌++◌, All, Contains, IsTrue, get_or}
 use Rattle.std.specs.Prelude.{Option, Some, None, Result, Ok, Err, OnErr}
@@ -57,7 +57,7 @@ use Rattle.relation_semantics.specs.FirstOrder.{IsFirstOrderStore, Unifies, IsEr
 use Rattle.relation_semantics.specs.Errors.{ErrorOf, ErrorAs, Meeting, as_pair, as_forms, IsDeferred}
 use Rattle.relation_semantics.specs.Agreeing.{Agree, AgreeBy}
 use Rattle.relation_semantics.specs.Asking.{Wanted, a_constraint, a_goal, AsksFor, HaveAlias}
-use Rattle.relation_semantics.specs.Recording.{AreBare, IsRecorded}
+use Rattle.relation_semantics.specs.Recording.{AreBare, IsRecorded, AsksNoMore, LeadsAsking}
 use Rattle.relation_semantics.specs.Measures.{Goes, grown}
 use Rattle.relation_semantics.specs.Bound.{IsWellBound}
 
@@ -107,9 +107,8 @@ abbrev pub items_in : {Key Id Name : Type 0} → State Key Id Name → Items
 items_in r = items_of r.meaning
 
 -- What a relation takes and gives, set up as it is: which leaves may stand in terms at a variance; whether it promises
--- to be exact; to record of two regions just what their variance asks for, and of two bare terms just what they ask for;
--- to register of two unresolved type variables, at covariance and contravariance, just that the one is a subtype of the
--- other; and that what it relates agrees.
+-- to be exact; to record of two terms just what they ask for; to register of two unresolved type variables, at
+-- covariance and contravariance, just that the one is a subtype of the other; and that what it relates agrees.
 pub record Manner : Type 1 where
   pub takes : Variance → Leaf → Type 0
   pub is_exact : Type 0
@@ -130,9 +129,8 @@ abbrev pub TakesParts : Manners → Type 0
 TakesParts M = (k : Settings) (c : Items) (h : Head) (i : ℕ) (v : Variance) (l : Leaf) → (M k).takes v l →
     (M k).takes (part_at c h i v) l
 
--- What is known of two terms that were related at a variance: what is recorded and registered relates them; where
--- exactness is promised, of first-order terms and records at invariance, each solution up to erasure unifies them;
--- and where that is promised, they agree.
+-- What is known of two terms that were related at a variance: what is recorded and registered relates them; and where
+-- promised, of first-order ones at invariance, each solution up to erasure unifies them; and they agree.
 pub record IsShown (M : Manner) (k : Settings) (c : Items) (st : Store) (goals : List Goal) (e : Tree) (v : Variance)
     (a b : Tree) : Type 0 where
   pub relates : Relates c st goals e v a b
@@ -175,9 +173,8 @@ module _ {Key Id Name : Type 0} where
   abbrev pub RelatesByDeclared : State Key Id Name → Type 0
   RelatesByDeclared r = ByDeclared r.kept.settings.declared_at_invariance r.ambient
 
-  -- From one state to another with a pair of size `n` related, or a part of the work for it done: keys mean what they
-  -- meant, all that was recorded and registered stands, goals are registered in the relation's environment, and what no
-  -- step changes and the variance are as they were.
+  -- A pair of size `n` was related, or a part of that work done: keys mean what they meant, what was recorded and
+  -- registered stands, goals are registered in the environment, what no step changes and the variance are as before.
   pub record Passes (n : ℕ) (r q : State Key Id Name) : Type 0 where
     pub extends : Extends r.meaning q.meaning
     pub goes : Goes n r.store q.store
@@ -205,9 +202,7 @@ module _ {Key Id Name : Type 0} where
   -- The same of two things that are brought together. Only of terms the answer is looked at.
   abbrev pub MayAnswerBy : Manners → State Key Id Name → Way → Tree → Tree → Type 0
   MayAnswerBy M q (at v) t u = MayAnswer M q v t u
-  MayAnswerBy M q (parts h i v) t u = Unit {0}
-  MayAnswerBy M q (second_opened ks ls v) t u = Unit {0}
-  MayAnswerBy M q (first_opened ks ls v) t u = Unit {0}
+  MayAnswerBy M q way t u = Unit {0}
 
   -- What a fault says of two terms at a variance: a type error that no assignment makes them one, and which error it
   -- is, over known terms; a spent budget that nothing is left of it, and that a variable but of a region stands in one
@@ -273,9 +268,7 @@ module _ {Key Id Name : Type 0} where
   abbrev pub ExactlyBy : {X : Type 0} → Manner → Store → Store → Way → Tree → Tree →
       Result X (RelateFault Key Id Name) → Type 0
   ExactlyBy M before after (at v) a b result = ExactlyRelated M before after v a b result
-  ExactlyBy M before after (parts h i v) a b result = Unit {0}
-  ExactlyBy M before after (second_opened ks ls v) a b result = Unit {0}
-  ExactlyBy M before after (first_opened ks ls v) a b result = Unit {0}
+  ExactlyBy M before after way a b result = Unit {0}
 
   -- A pair is known, and what it asks for, if it is bare, stands among these constraints and the goals; so do all that
   -- are remembered.
@@ -306,10 +299,15 @@ module _ {Key Id Name : Type 0} where
   RecordsJustAsked M r q v a b = (M r.kept.settings).records_asked → AreBare r.kept.settings a b →
       RecordsJust (λ z. AsksFor (items_in r) z v a b) r q
 
+  -- No constraint was recorded of two terms that are gone into but what they ask for, by what they come to then.
+  abbrev pub RecordsNoMore : Manners → State Key Id Name → State Key Id Name → Variance → Tree → Tree → Type 0
+  RecordsNoMore M r q v a b = (M r.kept.settings).records_asked →
+      AsksNoMore r.kept.settings (items_in r) r.store q.store v a b
+
   -- The same by how they are brought together: of two forms, if none is an alias. It is said of terms alone.
   abbrev pub RecordsAs : Meeting → Manners → State Key Id Name → State Key Id Name → Way → Tree → Tree → Type 0
-  RecordsAs as_pair M r q (at v) a b = RecordsJustAsked M r q v a b
-  RecordsAs as_forms M r q (at v) a b = (HaveAlias a b → ⊥) → RecordsJustAsked M r q v a b
+  RecordsAs as_pair M r q (at v) a b = RecordsJustAsked M r q v a b × RecordsNoMore M r q v a b
+  RecordsAs as_forms M r q (at v) a b = (HaveAlias a b → ⊥) → RecordsJustAsked M r q v a b × RecordsNoMore M r q v a b
   RecordsAs y M r q way a b = Unit {0}
 
   -- And by what came of it.
@@ -426,15 +424,17 @@ module _ {Key Id Name : Type 0} where
     pub full : StaysFullFor r.store q.store a b
     pub built : StaysBuilt r.store q.store passes.added a b
 
-  -- A step records of two bare terms just what they ask for: where it answers, all of it; where two forms are left,
-  -- these are the two, and it records nothing. It leaves no other pair of them.
+  -- A step records of two bare terms just what they ask for: all of it where it answers, nothing where the two are left
+  -- as forms; it leaves no other pair of them. Of others no more, and none where a pair is left that asks for no more.
   abbrev pub StepRecords : {K : Type 0} → Manners → State Key Id Name → State Key Id Name → (K → Tree) → Tree → Tree →
       Result (Step K) (RelateFault Key Id Name) → Type 0
-  StepRecords M r q tree a b (Ok (Done t)) = RecordsJustAsked M r q r.ambient a b
-  StepRecords M r q tree a b (Ok (Parts x y)) = (M r.kept.settings).records_asked → AreBare r.kept.settings a b →
-      (tree x ≡ a) × (tree y ≡ b) × RecordsJust (λ z. ⊥) r q
+  StepRecords M r q tree a b (Ok (Done t)) = RecordsJustAsked M r q r.ambient a b × RecordsNoMore M r q r.ambient a b
+  StepRecords M r q tree a b (Ok (Parts x y)) = ((M r.kept.settings).records_asked → AreBare r.kept.settings a b →
+      (tree x ≡ a) × (tree y ≡ b) × RecordsJust (λ z. ⊥) r q) × ((M r.kept.settings).records_asked →
+      LeadsAsking r.kept.settings (items_in r) r.store q.store r.ambient a b r.ambient (tree x) (tree y))
   StepRecords M r q tree a b (Ok (Again k l x y v u)) =
-      (M r.kept.settings).records_asked → AreBare r.kept.settings a b → ⊥
+      ((M r.kept.settings).records_asked → AreBare r.kept.settings a b → ⊥) × ((M r.kept.settings).records_asked →
+      LeadsAsking r.kept.settings (items_in r) r.store q.store r.ambient a b (xform r.ambient v) (tree x) (tree y))
   StepRecords M r q tree a b (Err f) = Unit {0}
 
   -- What is known of two terms that were related at a variance, where a relation stands.

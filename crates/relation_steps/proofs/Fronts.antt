@@ -22,7 +22,7 @@ use Rattle.relation_folds.specs.declared.error.RelateFault.TheVariants.{Memory, 
 use Rattle.relation_semantics.specs.OneUniverse.{NamesTypesTo, KeepsUniverseOf, LeadsInUniverse}
 use Rattle.relation_semantics.specs.Lawful.{State, Manners, Passes, Related, ExactResult, RecordsJust, items_in}
 use Rattle.relation_semantics.specs.Asking.{AsksFor}
-use Rattle.relation_semantics.specs.Recording.{AreBare, FrontAsks}
+use Rattle.relation_semantics.specs.Recording.{AreBare, FrontAsks, AsksNoMore, FrontAsksNoMore}
 use Rattle.relation_semantics.proofs.Recording.{bare_nth, stands_itself, records_trivial, front_asks_none}
 use Rattle.relation_semantics.proofs.Recording.{front_goes_on as recorded_on}
 use Rattle.relation_semantics.proofs.OneUniverse.{keeps_itself, keeps_pair, leaves_nth, led_keeps, led_binds, led_fewer}
@@ -31,7 +31,8 @@ use Rattle.relation_semantics.proofs.Full.{full_itself, full_then, nth_plain}
 use Rattle.relation_semantics.proofs.Building.{built_itself, built_led, built_nth, needs_led}
 use Rattle.relation_semantics.proofs.Composing.{front_begins, front_goes_on, front_ends}
 use Rattle.relation_semantics.proofs.Keeping.{one_front, unified_front}
-use Rattle.relation_semantics.proofs.Passing.{passes_nowhere, passes_then, manner_then, outcome_seen}
+use Rattle.relation_semantics.proofs.AskingSince.{front_none, front_next}
+use Rattle.relation_semantics.proofs.Passing.{passes_nowhere, passes_then, manner_then, outcome_seen, seen_no_more}
 use Rattle.relation_semantics.proofs.Parts.{nth_size}
 use Rattle.relation_semantics.proofs.Agreeing.{agree_parts}
 use Rattle.relation_semantics.proofs.AgreeingForms.{next_agrees}
@@ -77,6 +78,8 @@ pub record Fronted {Key Id Name : Type 0} (M : Manners) (r q : State Key Id Name
       Agree r.kept.settings (items_in r) (at (part_at (items_in r) h j v)) (nth j xs) (nth j ys)
   pub records : (M r.kept.settings).records_asked → AreBare r.kept.settings xs ys →
       RecordsJust (FrontAsks (items_in r) h v i xs ys) r q
+  pub no_more : (M r.kept.settings).records_asked →
+      FrontAsksNoMore r.kept.settings (items_in r) r.store q.store h v i xs ys
 
 -- What is asked of two lists of parts.
 pub record AreParts (st : Store) (xs ys : Tree) : Type 0 where
@@ -106,6 +109,7 @@ module _ {Key Id Name : Type 0} where
     built = built_itself r.store xs ys;
     agrees = λ k j l. absurd (omega (arith, l));
     records = λ k bare. records_trivial (stands_itself r) refl (front_asks_none (items_in r) h v xs ys);
+    no_more = λ k. front_none r.kept.settings (items_in r) r.store h v xs ys;
   }
 
   module _ {M : Manners} {r q : State Key Id Name} (h : Head) (v : Variance) (i : ℕ) (xs ys x y : Tree)
@@ -193,7 +197,12 @@ module _ {Key Id Name : Type 0} where
       records = λ k bare. recorded_on (items_in r) h v i xs ys (same_environment (g.passes).kept) (f.records k bare)
           (subst₂ (λ t u. RecordsJust (λ z. AsksFor (items_in r) z (part_at (items_in r) h i v) t u) q p) ex ey
           (subst (λ c. RecordsJust (λ z. AsksFor c z (part_at (items_in r) h i v) x y) q p) (same_items f.passes)
-          (g.records (manner_then M (λ m. m.records_asked) f.passes k) (bare_part bare))));
+          ((g.records).0 (manner_then M (λ m. m.records_asked) f.passes k) (bare_part bare))));
+      no_more = λ k. front_next r.kept.settings (items_in r) r.store q.store p.store h v i xs ys (f.passes).added
+          ((g.passes).goes).later f.built (λ j ha hb all. (built_nth j i xs ha, built_nth j i ys hb)) (f.no_more k)
+          (subst₂ (AsksNoMore r.kept.settings (items_in r) q.store p.store (part_at (items_in r) h i v)) ex ey
+          (seen_no_more q.store p.store (part_at (items_in r) h i v) x y f.passes
+          ((g.records).1 (manner_then M (λ m. m.records_asked) f.passes k))));
     }
 
     -- A fault of two parts is one of the lists: they are not unified where the parts are not.

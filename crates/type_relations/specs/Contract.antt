@@ -20,7 +20,7 @@ use Rattle.relation_semantics.specs.ContextCalls.{KeepsBeside}
 use Rattle.context_relation.specs.Relating.{term_in, KnowsTerm, Idle, AnswersOnly, AnswersTerms}
 use Rattle.context_relation.specs.Relating.{KeepsEqual, TellsApart, AnswersError, RelatesAgreeing, AnswersExactly}
 use Rattle.context_relation.specs.Relating.{ProvesApart, SpendsNoMore, MakesToRelate, BuildsNoMore}
-use Rattle.context_relation.specs.Completing.{JustAsked}
+use Rattle.context_relation.specs.Completing.{JustAsked, OnlyAsked}
 
 -- What is asked of two values in a context, of which `tree` says what is related, and `Fits` that two lists have as
 -- many arguments.
@@ -84,6 +84,8 @@ module _ {S Key Id Name A : Type 0} (state : S → Context Key Id Name) (old new
     pub goals : AnswersOnly state old new g e v result
     -- Of two bare terms just what they ask for is recorded and answered.
     pub asked : JustAsked state old new over tree g e v a b result
+    -- Of others without binders and aliases no constraint is recorded but what they ask for by what they come to.
+    pub no_more : OnlyAsked state old new over tree g v a b result
     -- Of two that are one nothing is.
     pub same : term_in (state old) over tree a ≡ term_in (state old) over tree b → Idle state old new result
 

@@ -67,7 +67,9 @@ pub trait RelateExt: InferCtxtLike {
     /// right one the left one, or both each other; of two different terms of which one is an alias
     /// or an unevaluated constant their goal alone is asked for. Such a constraint or goal may come
     /// more than once; but a pair that is met again may add nothing, and that a region outlives
-    /// itself need not be recorded.
+    /// itself need not be recorded. Of others without binders and aliases, or with aliases that are
+    /// left to goals, as is what was bound, `Ok` has recorded no constraint but what they ask for by
+    /// what they come to then, and ever after.
     ///
     /// Two different types that are unresolved type variables answer just one goal, and nothing is recorded: at
     /// `Covariant` that the first is a subtype of the second, at `Contravariant` that the second is one of the first.

@@ -9,11 +9,14 @@ use Rattle.plain_relation.proofs.PlainLemmas.{no_const_variable, none_left}
 use Rattle.plain_relation.proofs.PlainRelationTypeRelation.consts.Goals as goal
 
 pub returns-clause-records : goal.returns-clause-records
-returns-clause-records g c = λ promised bare. let r = c.args.self.now in (
-  refl,
-  refl,
-  records_trivial (stands_itself (plain_state (g.I.Interner.meaning r.interner) r.ambient r.constraints.items)) refl
-      (λ z o. absurd o),
+returns-clause-records g c = (
+  λ promised bare. let r = c.args.self.now in (
+    refl,
+    refl,
+    records_trivial (stands_itself (plain_state (g.I.Interner.meaning r.interner) r.ambient r.constraints.items)) refl
+        (λ z o. absurd o),
+  ),
+  λ promised k gone ha hb all. (refl, λ q st later sound asks. asks),
 )
 
 pub returns-clause-stepped : goal.returns-clause-stepped

@@ -20,11 +20,14 @@ returns-clause-stepped g c =
 
 -- It records nothing.
 pub returns-clause-records : goal.returns-clause-records
-returns-clause-records g c = λ promised bare. let r = c.args.self.now in (
-  refl,
-  refl,
-  records_trivial (stands_itself (plain_state (g.I.Interner.meaning r.interner) r.ambient r.constraints.items)) refl
-      (λ z o. absurd o),
+returns-clause-records g c = (
+  λ promised bare. let r = c.args.self.now in (
+    refl,
+    refl,
+    records_trivial (stands_itself (plain_state (g.I.Interner.meaning r.interner) r.ambient r.constraints.items)) refl
+        (λ z o. absurd o),
+  ),
+  λ promised k gone ha hb all. (refl, λ q st later sound asks. asks),
 )
 
 -- It promises nothing of what is registered at once.

@@ -408,7 +408,7 @@ tys-returns-in_ok-tys_done-in-Parts-clause-related g t c =
     noted_related M r.ambient a b (p.meaning).ty z.answer done (Ok n.field-0) n.ensures
     (built_again r.store a b (step.verdict).built (((inner.passes).extends).ty c.in-Parts.a ((step.verdict).asked).left_known)
     (((inner.passes).extends).ty c.in-Parts.b ((step.verdict).asked).right_known)) (u.meaning).ty
-    ((((n.ensures).passes).extends).ty z.answer (done.verdict).known) (λ promised bare. let i = just promised bare in (
+    ((((n.ensures).passes).extends).ty z.answer (done.verdict).known) (λ promised bare. let i = just.0 promised bare in (
       ((inner.passes).extends).ty c.in-Parts.a ((step.verdict).asked).left_known ∙ i.0,
       ((inner.passes).extends).ty c.in-Parts.b ((step.verdict).asked).right_known ∙ i.1,
       (inner.passes).ambient ∙ (step.passes).ambient,
@@ -568,7 +568,7 @@ tys-returns-in_ok-tys_done-in-Again-clause-related g t c =
     (built_again r.store a b (step.verdict).read_built (((inner.passes).extends).ty c.in-Again.a ((step.verdict).read_asked).left_known)
     (((inner.passes).extends).ty c.in-Again.b ((step.verdict).read_asked).right_known)) (u.meaning).ty
     ((((n.ensures).passes).extends).ty c.in-Again.answer (done.verdict).known)
-    (λ promised bare. absurd (just promised bare))
+    (λ promised bare. absurd (just.0 promised bare))
 
 pub tys-returns-in-Done-clause-registers : goal.tys-returns-in-Done-clause-registers
 tys-returns-in-Done-clause-registers g t c =

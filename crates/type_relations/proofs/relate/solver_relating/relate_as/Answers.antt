@@ -24,7 +24,8 @@ use Rattle.relation_semantics.specs.Alphabets.{StaysBuilt, NeedsVariable}
 use Rattle.relation_semantics.proofs.Building.{built_itself}
 use Rattle.relation_combining.proofs.OverContext.{all_taken}
 use Rattle.context_relation.proofs.Solving.{keeps_beside, none_held, answers_goals, keeps_equal, relates_agreeing, registers_goals, no_goals_exactly}
-use Rattle.context_relation.proofs.Solving.{adds_just_asked}
+use Rattle.context_relation.proofs.Solving.{adds_just_asked, adds_no_more}
+use Rattle.relation_semantics.proofs.AskingSince.{no_more_same}
 use Rattle.relation_semantics.specs.Recording.{IsJustAsked}
 use Rattle.relation_semantics.proofs.Recording.{nothing_asked}
 use Rattle.relation_semantics.proofs.Agreeing.{agree_same}
@@ -113,6 +114,8 @@ returns-then-eq-clause-asks g c =
       asked = λ bare. subst (λ gs. IsJustAsked (items_of s.meaning) ((s.meaning).param_env e) c.args.variance a b
           (s.store).constraints (s.store).constraints (goals_of s.meaning gs)) (sym c.new.ensures.items)
           (nothing_asked (items_of s.meaning) ((s.meaning).param_env e) c.args.variance a b (s.store).constraints one);
+      no_more = no_more_same (solver_settings c.args.aliases s.setup) (items_of s.meaning) s.store s.store
+          c.args.variance a b refl;
       same = λ is. (c.new.ensures.items, refl);
     }
 
@@ -249,6 +252,7 @@ returns-in_err-related-clause-asks g c =
     record {
       goals = none_answered _ c.from_residual.result f is;
       asked = λ bare. none_answered _ c.from_residual.result f is;
+      no_more = none_answered _ c.from_residual.result f is;
       same = λ e. absurd (false≢true (c.if-eq.ensures
           ∙ one_equal (g.met.Infcx.InferCtxtLike.reads c.args.infcx.now) g.T.Relate.over g.T.HasTree.tree
           g.T.PartialEq.eq (g.met.T.Relate.same (g.Infcx.InferCtxtLike.interner c.args.infcx.now)) c.args.lhs c.args.rhs
@@ -407,6 +411,8 @@ returns-clause-asks g c =
           c.relate_in-related.result.0 (k.lawful, none_held c.args.aliases 0 s [] e)
           (k.env_known, All-nil (KnowsGoal s.meaning)) c.relate_in-related.ensures.related;
       asked = λ bare. adds_just_asked s.meaning d.meaning s.store d.store s.lawful d.lawful v e a b tree hs c.in_ok-related.field-0 refl bare related;
+      no_more = adds_no_more s.meaning d.meaning s.store d.store s.lawful d.lawful v e a b tree hs
+          c.in_ok-related.field-0 related;
       same = λ e. absurd (false≢true (c.if-eq.ensures
           ∙ one_equal (g.met.Infcx.InferCtxtLike.reads c.args.infcx.now) g.T.Relate.over g.T.HasTree.tree
           g.T.PartialEq.eq (g.met.T.Relate.same (g.Infcx.InferCtxtLike.interner c.args.infcx.now)) c.args.lhs c.args.rhs
