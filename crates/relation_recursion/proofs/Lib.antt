@@ -18,6 +18,7 @@ pub mod PredicateForms
 pub mod RelatableForms
 pub mod RelatableValues
 pub mod Rounds
+pub mod Starting
 pub mod StructuralConsts
 pub mod StructuralTys
 pub mod Unifying

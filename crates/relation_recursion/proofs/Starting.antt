@@ -1,0 +1,65 @@
+-- How relating two types begins.
+use Rattle.std.proofs.Common.{◌≡◌, ◌↔◌, ℕ, Bool, true, false, refl, sym, IsTrue}
+use Rattle.std.proofs.lemmas.Bool.{false≢true}
+use Rattle.term_enums.specs.declared.Mutability.{Mutability}
+use Rattle.relation_terms.specs.Trees.{count}
+use Rattle.relation_terms.specs.Meaning.{Meaning, kind_tree}
+use Rattle.relation_terms.specs.declared.terms.keys.TyKey.{TyKey}
+use Rattle.relation_terms.specs.declared.terms.keys.TysKey.{TysKey}
+use Rattle.relation_terms.specs.declared.terms.keys.RegionKey.{RegionKey}
+use Rattle.relation_terms.specs.declared.terms.ty_kind.TyKind.TheVariants.{Slice, Tuple, Ref}
+use Rattle.relation_semantics.specs.Errors.{AreOfOneForm, over_parts}
+use Rattle.relation_semantics.specs.Parts.{IsByParts, direct_parts}
+use Rattle.relation_semantics.specs.Relation.{IsError}
+use Rattle.relation_recursion.specs.Starting.{AreOfPlainForm, Starts}
+
+module _ {Key Id Name : Type 0} (m : Meaning Key Id Name) where
+  -- Slices, tuples of one length, and references that may change as much.
+  pub slices_plain : (x y : TyKey Key) → AreOfPlainForm (kind_tree m (Slice x)) (kind_tree m (Slice y)) 1
+  slices_plain x y = record { alike = over_parts refl refl refl; over_args = λ o. o; counted = refl }
+
+  pub tuples_plain : (x y : TysKey Key) (n : ℕ) → n ≡ count (m.tys x) → n ≡ count (m.tys y) →
+      AreOfPlainForm (kind_tree m (Tuple x)) (kind_tree m (Tuple y)) n
+  tuples_plain x y n e f = record { alike = over_parts refl refl (cc); over_args = λ o. o; counted = e }
+
+  pub refs_plain : (r s : RegionKey Key) (x y : TyKey Key) (u : Mutability) →
+      AreOfPlainForm (kind_tree m (Ref r x u)) (kind_tree m (Ref s y u)) 2
+  refs_plain r s x y u = record { alike = over_parts refl refl refl; over_args = λ o. o; counted = refl }
+
+  module _ (a b : TyKey Key) where
+    -- The left one is an error, or the right one, or they are of one form.
+    pub left_starts : IsError (m.ty a) →
+        Starts m a b (record { left_error = true; right_error = false; in_order = false; count = 0 })
+    left_starts e = record {
+      left_error = λ h. e;
+      right_error = λ h. absurd (false≢true h);
+      alike = λ h k. absurd (false≢true (sym h));
+      by_parts = λ h k. absurd (false≢true (sym h));
+      counted = λ h k. absurd (false≢true (sym h));
+    }
+
+    pub right_starts : IsError (m.ty b) →
+        Starts m a b (record { left_error = false; right_error = true; in_order = false; count = 0 })
+    right_starts e = record {
+      left_error = λ h. absurd (false≢true h);
+      right_error = λ h. e;
+      alike = λ h k. absurd (false≢true (sym k));
+      by_parts = λ h k. absurd (false≢true (sym k));
+      counted = λ h k. absurd (false≢true (sym k));
+    }
+
+    pub forms_start : (o : Bool) (n : ℕ) → AreOfOneForm (m.ty a) (m.ty b) → (IsTrue o ↔ IsByParts (m.ty a)) →
+        n ≡ count (direct_parts (m.ty a)) →
+        Starts m a b (record { left_error = false; right_error = false; in_order = o; count = n })
+    forms_start o n alike by_parts counted = record {
+      left_error = λ h. absurd (false≢true h);
+      right_error = λ h. absurd (false≢true h);
+      alike = λ h k. alike;
+      by_parts = λ h k. by_parts;
+      counted = λ h k. counted;
+    }
+
+    pub plain_starts : (n : ℕ) → AreOfPlainForm (m.ty a) (m.ty b) n →
+        Starts m a b (record { left_error = false; right_error = false; in_order = false; count = n })
+    plain_starts n p =
+        forms_start false n p.alike ((λ h. absurd (false≢true h)), (λ o. absurd (p.over_args o))) p.counted
