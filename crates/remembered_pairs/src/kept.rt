@@ -103,15 +103,18 @@ fn lead_to<P: Eq + Hash>(values: &[P], places: &mut [u32], number: usize) {
     }
 }
 
-// Makes four times as many places, and leads to all values anew.
+// Makes four times as many places, and room for half as many values, and leads to all values anew.
 #[inline(never)]
-fn widen<P: Eq + Hash>(values: &[P], places: &mut Vec<u32>) -> Result<(), OutOfMemory> {
+fn widen<P: Eq + Hash>(values: &mut Vec<P>, places: &mut Vec<u32>) -> Result<(), OutOfMemory>
+    ensures { values.new.items ≡ values.old.items }
+{
     let amount = places.len().saturating_mul(4).max(LEAST);
+    values.reserve(amount / 2)?;
     places.reserve(amount)?;
     places.clear();
     places.resize(amount, NO_VALUE)?;
     for number in 0..values.len() {
-        lead_to(values, places, number);
+        lead_to(values.as_slice(), places.as_mut_slice(), number);
     }
     Ok(())
 }
@@ -130,7 +133,7 @@ fn put<P: Eq + Hash + Copy>(
     };
     let number = u32::try_from(values.len()).map_err(|_| OutOfMemory)?;
     values.push(value)?;
-    lead(places, place, number);
+    lead(places.as_mut_slice(), place, number);
     Ok(())
 }
 
@@ -173,7 +176,7 @@ impl<P: Eq + Hash + Copy> KeptValues<P> {
             return Ok(());
         }
         if self.values.len() >= self.places.len() / 2 {
-            widen(self.values.as_slice(), &mut self.places)?;
+            widen(&mut self.values, &mut self.places)?;
         }
         put(&mut self.values, &mut self.places, value)
     }

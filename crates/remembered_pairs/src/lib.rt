@@ -28,6 +28,7 @@ impl<T: Eq + Hash + Copy> RememberedPairs<T> {
     }
 
     /// Whether a pair of two that equal these is remembered at the variance.
+    #[inline(always)]
     pub fn contains(&self, variance: Variance, a: &T, b: &T) -> bool
         ensures { IsTrue result → IsRemembered T.eq variance a.now b.now self.now.pairs.kept }
     {
