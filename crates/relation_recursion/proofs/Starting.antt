@@ -1,14 +1,18 @@
 -- How relating two types begins.
-use Rattle.std.proofs.Common.{◌≡◌, ◌↔◌, ℕ, Bool, true, false, refl, sym, IsTrue}
+use Rattle.std.proofs.Common.{◌≡◌, ◌↔◌, ℕ, Bool, true, false, refl, sym, ap, ◌∙◌, IsTrue}
 use Rattle.std.proofs.lemmas.Bool.{false≢true}
 use Rattle.term_enums.specs.declared.Mutability.{Mutability}
-use Rattle.relation_terms.specs.Trees.{count}
-use Rattle.relation_terms.specs.Meaning.{Meaning, kind_tree}
+use Rattle.relation_terms.specs.Heads.{adt, alias}
+use Rattle.relation_terms.specs.Trees.{node, count}
+use Rattle.relation_terms.specs.Meaning.{Meaning, kind_tree, alias_kind, alias_id}
 use Rattle.relation_terms.specs.declared.terms.keys.TyKey.{TyKey}
 use Rattle.relation_terms.specs.declared.terms.keys.TysKey.{TysKey}
 use Rattle.relation_terms.specs.declared.terms.keys.RegionKey.{RegionKey}
-use Rattle.relation_terms.specs.declared.terms.ty_kind.TyKind.TheVariants.{Slice, Tuple, Ref}
-use Rattle.relation_semantics.specs.Errors.{AreOfOneForm, over_parts}
+use Rattle.relation_terms.specs.declared.terms.keys.ArgsKey.{ArgsKey}
+use Rattle.relation_terms.specs.declared.terms.ids.AdtId.{AdtId}
+use Rattle.relation_terms.specs.declared.terms.alias.AliasTy.{AliasTy}
+use Rattle.relation_terms.specs.declared.terms.ty_kind.TyKind.TheVariants.{Slice, Tuple, Ref, Adt, Alias}
+use Rattle.relation_semantics.specs.Errors.{AreOfOneForm, over_parts, over_aliases}
 use Rattle.relation_semantics.specs.Parts.{IsByParts, direct_parts}
 use Rattle.relation_semantics.specs.Relation.{IsError}
 use Rattle.relation_recursion.specs.Starting.{AreOfPlainForm, Starts}
@@ -20,11 +24,29 @@ module _ {Key Id Name : Type 0} (m : Meaning Key Id Name) where
 
   pub tuples_plain : (x y : TysKey Key) (n : ℕ) → n ≡ count (m.tys x) → n ≡ count (m.tys y) →
       AreOfPlainForm (kind_tree m (Tuple x)) (kind_tree m (Tuple y)) n
-  tuples_plain x y n e f = record { alike = over_parts refl refl (cc); over_args = λ o. o; counted = e }
+  tuples_plain x y n e f = record { alike = over_parts refl refl (sym e ∙ f); over_args = λ o. o; counted = e }
 
   pub refs_plain : (r s : RegionKey Key) (x y : TyKey Key) (u : Mutability) →
       AreOfPlainForm (kind_tree m (Ref r x u)) (kind_tree m (Ref s y u)) 2
   refs_plain r s x y u = record { alike = over_parts refl refl refl; over_args = λ o. o; counted = refl }
+
+  -- Types over one item, and aliases, with as many arguments.
+  pub adts_plain : (d e : AdtId Id) (x y : ArgsKey Key) (n : ℕ) → m.id d.0 ≡ m.id e.0 → n ≡ count (m.args x) →
+      n ≡ count (m.args y) → AreOfPlainForm (kind_tree m (Adt d x)) (kind_tree m (Adt e y)) n
+  adts_plain d e x y n p i j = record {
+    alike = over_parts refl (ap (λ z. node (adt z) (m.args y)) (sym p)) (sym i ∙ j);
+    over_args = λ o. o;
+    counted = i;
+  }
+
+  pub aliases_plain : (a b : AliasTy Key Id) (n : ℕ) → m.id (alias_id a.kind) ≡ m.id (alias_id b.kind) →
+      n ≡ count (m.args a.args) → n ≡ count (m.args b.args) →
+      AreOfPlainForm (kind_tree m (Alias a)) (kind_tree m (Alias b)) n
+  aliases_plain a b n p i j = record {
+    alike = over_aliases refl (ap (λ z. node (alias (alias_kind b.kind) z) (m.args b.args)) (sym p)) (sym i ∙ j);
+    over_args = λ o. o;
+    counted = i;
+  }
 
   module _ (a b : TyKey Key) where
     -- The left one is an error, or the right one, or they are of one form.

@@ -9,7 +9,8 @@ use crate::comparing::compare_tys;
 use crate::forms::is_error;
 use crate::parts::{is_by_parts, parts_count};
 use relation_folds::error::TypeErrorOf;
-use relation_terms::terms::{Interner, Ty, TyForm, TyKind, Tys};
+use relation_semantics::variances::alias_item;
+use relation_terms::terms::{GenericArgs, Interner, Ty, TyForm, TyKind, Tys};
 
 // What two types are to relating.
 #[derive(Clone, Copy)]
@@ -38,8 +39,34 @@ fn equal_length<I: Interner>(cx: &I, tys: &Tys<I>, others: &Tys<I>) -> Option<us
     Some(n)
 }
 
-// How many parts two types of one form have that are of the forms met most: slices, tuples, references. Of others
-// nothing is told, nor where they differ.
+// The number of arguments of two lists over items, where these are one item and the lists have as many.
+#[inline(always)]
+fn equal_items<I: Interner>(
+    cx: &I,
+    item: &I::Id,
+    other: &I::Id,
+    args: &GenericArgs<I>,
+    others: &GenericArgs<I>,
+) -> Option<usize>
+    requires args_known { IsTrue (known ((I.meaning cx.now).args args.now)) }
+    requires others_known { IsTrue (known ((I.meaning cx.now).args others.now)) }
+    ensures item { let m = I.meaning cx.now in IfSome result (λ _. m.id item.now ≡ m.id other.now) }
+    ensures left { IfSome result (λ n. n ≡ count ((I.meaning cx.now).args args.now)) }
+    ensures right { IfSome result (λ n. n ≡ count ((I.meaning cx.now).args others.now)) }
+{
+    if *item != *other {
+        return None;
+    }
+    let n = cx.args(args).len();
+    let m = cx.args(others).len();
+    if n != m {
+        return None;
+    }
+    Some(n)
+}
+
+// How many parts two types of one form have that are of the forms met most. Of others nothing is told, nor where they
+// differ.
 #[inline(always)]
 fn plain_count<I: Interner>(cx: &I, kind: &TyForm<I>, other: &TyForm<I>) -> Option<usize>
     requires kind_known { IsTrue (known (kind_tree (I.meaning cx.now) kind.now)) }
@@ -68,6 +95,20 @@ fn plain_count<I: Interner>(cx: &I, kind: &TyForm<I>, other: &TyForm<I>) -> Opti
                 return None;
             }
             Some(2)
+        }
+        TyKind::Adt(def, args) => {
+            let TyKind::Adt(of_other, others) = other else {
+                return None;
+            };
+            equal_items(cx, &def.0, &of_other.0, args, others)
+        }
+        TyKind::Alias(alias) => {
+            let TyKind::Alias(of_other) = other else {
+                return None;
+            };
+            let item = alias_item(&alias.kind);
+            let other_item = alias_item(&of_other.kind);
+            equal_items(cx, &item.0, &other_item.0, &alias.args, &of_other.args)
         }
         _ => None,
     }
