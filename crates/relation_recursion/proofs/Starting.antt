@@ -1,5 +1,5 @@
 -- How relating two types begins.
-use Rattle.std.proofs.Common.{◌≡◌, ◌↔◌, ℕ, Bool, true, false, refl, sym, ap, ◌∙◌, IsTrue}
+use Rattle.std.proofs.Common.{◌≡◌, ◌↔◌, ℕ, Bool, true, false, refl, sym, ap, ◌∙◌, IsTrue, Option, Some, None, IfSome}
 use Rattle.std.proofs.lemmas.Bool.{false≢true}
 use Rattle.term_enums.specs.declared.Mutability.{Mutability}
 use Rattle.relation_terms.specs.Heads.{adt, alias}
@@ -47,6 +47,25 @@ module _ {Key Id Name : Type 0} (m : Meaning Key Id Name) where
     over_args = λ o. o;
     counted = i;
   }
+
+  -- The same, where it was found how many parts they have.
+  pub tuples_start : (x y : TysKey Key) (r : Option ℕ) → IfSome r (λ n. n ≡ count (m.tys x)) →
+      IfSome r (λ n. n ≡ count (m.tys y)) → IfSome r (AreOfPlainForm (kind_tree m (Tuple x)) (kind_tree m (Tuple y)))
+  tuples_start x y (Some n) e f = tuples_plain x y n e f
+  tuples_start x y None e f = tt
+
+  pub adts_start : (d e : AdtId Id) (x y : ArgsKey Key) (r : Option ℕ) → IfSome r (λ n. m.id d.0 ≡ m.id e.0) →
+      IfSome r (λ n. n ≡ count (m.args x)) → IfSome r (λ n. n ≡ count (m.args y)) →
+      IfSome r (AreOfPlainForm (kind_tree m (Adt d x)) (kind_tree m (Adt e y)))
+  adts_start d e x y (Some n) p i j = adts_plain d e x y n p i j
+  adts_start d e x y None p i j = tt
+
+  pub aliases_start : (a b : AliasTy Key Id) (d e : Id) (r : Option ℕ) → d ≡ alias_id a.kind → e ≡ alias_id b.kind →
+      IfSome r (λ n. m.id d ≡ m.id e) → IfSome r (λ n. n ≡ count (m.args a.args)) →
+      IfSome r (λ n. n ≡ count (m.args b.args)) →
+      IfSome r (AreOfPlainForm (kind_tree m (Alias a)) (kind_tree m (Alias b)))
+  aliases_start a b d e (Some n) u v p i j = aliases_plain a b n (sym (ap m.id u) ∙ p ∙ ap m.id v) i j
+  aliases_start a b d e None u v p i j = tt
 
   module _ (a b : TyKey Key) where
     -- The left one is an error, or the right one, or they are of one form.

@@ -1,8 +1,9 @@
-use Rattle.std.proofs.Common.{rules, ◌≡◌, ◌∙◌, sym, ap, subst, subst₂, IsTrue}
+use Rattle.std.proofs.Common.{rules, ◌≡◌, ◌∙◌, sym, ap, subst, subst₂, IsTrue, IfSome}
 use Rattle.relation_terms.specs.Trees.{known}
 use Rattle.relation_terms.specs.Meaning.{kind_tree}
+use Rattle.relation_terms.specs.declared.terms.ty_kind.TyKind.TheVariants.{Ref}
 use Rattle.relation_recursion.specs.Starting.{AreOfPlainForm}
-use Rattle.relation_recursion.proofs.Starting.{slices_plain, tuples_plain, refs_plain, adts_plain, aliases_plain}
+use Rattle.relation_recursion.proofs.Starting.{slices_plain, refs_plain, tuples_start, adts_start, aliases_start}
 use Rattle.relation_recursion.proofs.starting.plain_count.Goals as goal
 
 pub equal_length-requires-clause-tys_known : goal.equal_length-requires-clause-tys_known
@@ -40,3 +41,38 @@ returns-in-Slice g c =
     let m = g.I.Interner.meaning c.args.cx.now in
     subst₂ (λ k l. AreOfPlainForm (kind_tree m k) (kind_tree m l) 1) (sym c.in-Slice.is) (sym c.in-Slice-other.is)
     (slices_plain m c.in-Slice.field-0 c.in-Slice-other.field-0)
+
+pub returns-in-Tuple : goal.returns-in-Tuple
+returns-in-Tuple g c =
+    let m = g.I.Interner.meaning c.args.cx.now in
+    let n = c.equal_length in
+    subst₂ (λ k l. IfSome n.result (AreOfPlainForm (kind_tree m k) (kind_tree m l))) (sym c.in-Tuple.is)
+    (sym c.in-Tuple-other.is) (tuples_start m c.in-Tuple.tys c.in-Tuple-other.others n.result n.ensures.left n.ensures.right)
+
+pub returns-in-Ref : goal.returns-in-Ref
+returns-in-Ref g c =
+    let m = g.I.Interner.meaning c.args.cx.now in
+    let x = c.in-Ref in
+    let y = c.in-Ref-other in
+    let same : x.mutability ≡ y.of_other =
+    (let t = c.if-ne.false in let h = c.ne.ensures in let k = c.if-ne.ensures in search rules) in
+    subst₂ (λ k l. AreOfPlainForm (kind_tree m k) (kind_tree m l) 2) (sym x.is) (sym y.is)
+    (subst (λ u. AreOfPlainForm (kind_tree m (Ref x.field-0 x.field-1 x.mutability))
+    (kind_tree m (Ref y.field-0 y.field-1 u)) 2) same (refs_plain m x.field-0 y.field-0 x.field-1 y.field-1 x.mutability))
+
+pub returns-in-Adt : goal.returns-in-Adt
+returns-in-Adt g c =
+    let m = g.I.Interner.meaning c.args.cx.now in
+    let n = c.equal_items in
+    subst₂ (λ k l. IfSome n.result (AreOfPlainForm (kind_tree m k) (kind_tree m l))) (sym c.in-Adt.is)
+    (sym c.in-Adt-other.is) (adts_start m c.in-Adt.def c.in-Adt-other.of_other c.in-Adt.args c.in-Adt-other.others n.result
+    n.ensures.item n.ensures.left n.ensures.right)
+
+pub returns-in-Alias : goal.returns-in-Alias
+returns-in-Alias g c =
+    let m = g.I.Interner.meaning c.args.cx.now in
+    let n = c.equal_items-in-Alias in
+    subst₂ (λ k l. IfSome n.result (AreOfPlainForm (kind_tree m k) (kind_tree m l))) (sym c.in-Alias.is)
+    (sym c.in-Alias-other.is) (aliases_start m c.in-Alias.alias c.in-Alias-other.of_other (c.alias_item-item.result).0
+    (c.alias_item-other_item.result).0 n.result c.alias_item-item.ensures c.alias_item-other_item.ensures n.ensures.item
+    n.ensures.left n.ensures.right)
