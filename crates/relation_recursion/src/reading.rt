@@ -17,7 +17,7 @@ ghost use Rattle.part_variances.specs.Handing.{named_place};
 use crate::comparing::{compare_consts, compare_members, compare_parts};
 use crate::forms::is_error_const;
 use crate::parts::{const_part, const_parts_count, part, term_part, term_parts_count};
-use crate::starting::{Start, start};
+use crate::starting::{Start, begin};
 use part_variances::handing;
 use relation_folds::error::{RelateResult, TypeErrorOf};
 use relation_steps::type_relation::TypeRelation;
@@ -45,7 +45,7 @@ pub(crate) fn start_of<I: Interner, R: TypeRelation<I>>(
     ensures starts { IfOk result (Starts (R.state r.now).meaning a.now b.now) }
     ensures errors { IfErr result (FormError (R.state r.now).meaning a.now b.now) }
 {
-    start(r.cx(), a, b)
+    begin(r.cx(), a, b)
 }
 
 pub(crate) fn compare_consts_of<I: Interner, R: TypeRelation<I>>(

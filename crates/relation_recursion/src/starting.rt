@@ -152,7 +152,7 @@ fn start_of_any<I: Interner>(cx: &I, a: &Ty<I>, b: &Ty<I>) -> Result<Start, Type
 
 // The same, by the forms of both alone where these are met most.
 #[inline(always)]
-pub(crate) fn start<I: Interner>(cx: &I, a: &Ty<I>, b: &Ty<I>) -> Result<Start, TypeErrorOf<I>>
+pub(crate) fn begin<I: Interner>(cx: &I, a: &Ty<I>, b: &Ty<I>) -> Result<Start, TypeErrorOf<I>>
     requires a_known { IsTrue (known ((I.meaning cx.now).ty a.now)) }
     requires b_known { IsTrue (known ((I.meaning cx.now).ty b.now)) }
     ensures starts { IfOk result (Starts (I.meaning cx.now) a.now b.now) }
