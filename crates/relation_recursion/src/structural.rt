@@ -191,6 +191,7 @@ pub fn relate_with_variance<I: Interner, R: TypeRelation<I>>(
 /// parts in order, each at the variance of its place; a `ConstMismatch` of two lengths is the `ArraySize` of both. All
 /// other errors of the parts are handed on.
 #[cycle(relate)]
+#[inline(always)]
 pub fn structurally_relate_tys<I: Interner, R: TypeRelation<I>>(
     r: &mut R,
     a: &Ty<I>,
