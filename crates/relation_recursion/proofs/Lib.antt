@@ -1,6 +1,7 @@
 pub mod Alone
 pub mod Arguments
 pub mod AsParts
+pub mod Beginnings
 pub mod Bodies
 pub mod ByParts
 pub mod Compared
@@ -18,7 +19,6 @@ pub mod PredicateForms
 pub mod RelatableForms
 pub mod RelatableValues
 pub mod Rounds
-pub mod Starting
 pub mod StructuralConsts
 pub mod StructuralTys
 pub mod Unifying

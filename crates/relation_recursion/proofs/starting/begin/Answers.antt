@@ -1,6 +1,6 @@
 use Rattle.std.proofs.Common.{sym, subst₂}
 use Rattle.relation_recursion.specs.Starting.{AreOfPlainForm}
-use Rattle.relation_recursion.proofs.Starting.{plain_starts}
+use Rattle.relation_recursion.proofs.Beginnings.{plain_starts}
 use Rattle.relation_recursion.proofs.starting.begin.Goals as goal
 
 pub returns-in-Some-clause-starts : goal.returns-in-Some-clause-starts

@@ -3,7 +3,7 @@ use Rattle.relation_terms.specs.Trees.{known}
 use Rattle.relation_terms.specs.Meaning.{kind_tree}
 use Rattle.relation_terms.specs.declared.terms.ty_kind.TyKind.TheVariants.{Ref}
 use Rattle.relation_recursion.specs.Starting.{AreOfPlainForm}
-use Rattle.relation_recursion.proofs.Starting.{slices_plain, refs_plain, tuples_start, adts_start, aliases_start}
+use Rattle.relation_recursion.proofs.Beginnings.{slices_plain, refs_plain, tuples_start, adts_start, aliases_start}
 use Rattle.relation_recursion.proofs.starting.plain_count.Goals as goal
 
 pub equal_length-requires-clause-tys_known : goal.equal_length-requires-clause-tys_known

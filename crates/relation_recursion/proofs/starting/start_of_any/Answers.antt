@@ -1,6 +1,6 @@
 use Rattle.std.proofs.Common.{sym, ◌∙◌}
 use Rattle.std.proofs.lemmas.Bool.{false≢true}
-use Rattle.relation_recursion.proofs.Starting.{left_starts, right_starts, forms_start}
+use Rattle.relation_recursion.proofs.Beginnings.{left_starts, right_starts, forms_start}
 use Rattle.relation_recursion.proofs.starting.start_of_any.Goals as goal
 
 pub returns-then-is_error-clause-starts : goal.returns-then-is_error-clause-starts
