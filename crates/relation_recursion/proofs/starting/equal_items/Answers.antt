@@ -12,9 +12,9 @@ returns-clause-item g c =
 pub returns-clause-left : goal.returns-clause-left
 returns-clause-left g c =
     let m = g.I.Interner.meaning c.args.cx.now in
-    sym (ap count c.args-2.ensures ∙ list_count (arg_tree m) c.args-2.result.now)
+    sym (ap count c.args-n.ensures ∙ list_count (arg_tree m) c.args-n.result.now)
 
 pub returns-clause-right : goal.returns-clause-right
 returns-clause-right g c =
     let m = g.I.Interner.meaning c.args.cx.now in
-    c.if-n-m.false ∙ sym (ap count c.args-3.ensures ∙ list_count (arg_tree m) c.args-3.result.now)
+    c.if-n-m.false ∙ sym (ap count c.args-m.ensures ∙ list_count (arg_tree m) c.args-m.result.now)

@@ -6,9 +6,9 @@ use Rattle.relation_recursion.proofs.starting.equal_length.Goals as goal
 pub returns-clause-left : goal.returns-clause-left
 returns-clause-left g c =
     let m = g.I.Interner.meaning c.args.cx.now in
-    sym (ap count c.tys.ensures ∙ list_count m.ty c.tys.result.now)
+    sym (ap count c.tys-n.ensures ∙ list_count m.ty c.tys-n.result.now)
 
 pub returns-clause-right : goal.returns-clause-right
 returns-clause-right g c =
     let m = g.I.Interner.meaning c.args.cx.now in
-    c.if-n-m.false ∙ sym (ap count c.tys-2.ensures ∙ list_count m.ty c.tys-2.result.now)
+    c.if-n-m.false ∙ sym (ap count c.tys-m.ensures ∙ list_count m.ty c.tys-m.result.now)

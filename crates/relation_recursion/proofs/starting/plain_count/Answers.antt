@@ -36,21 +36,21 @@ equal_items-requires-in-Alias-clause-others_known g c =
     let m = g.I.Interner.meaning c.args.cx.now in
     subst (λ k. IsTrue (known (kind_tree m k))) c.in-Alias-other.is c.requires.other_known
 
-pub returns-in-Slice : goal.returns-in-Slice
-returns-in-Slice g c =
+pub returns-in-Slice-other : goal.returns-in-Slice-other
+returns-in-Slice-other g c =
     let m = g.I.Interner.meaning c.args.cx.now in
     subst₂ (λ k l. AreOfPlainForm (kind_tree m k) (kind_tree m l) 1) (sym c.in-Slice.is) (sym c.in-Slice-other.is)
     (slices_plain m c.in-Slice.field-0 c.in-Slice-other.field-0)
 
-pub returns-in-Tuple : goal.returns-in-Tuple
-returns-in-Tuple g c =
+pub returns-in-Tuple-other : goal.returns-in-Tuple-other
+returns-in-Tuple-other g c =
     let m = g.I.Interner.meaning c.args.cx.now in
     let n = c.equal_length in
     subst₂ (λ k l. IfSome n.result (AreOfPlainForm (kind_tree m k) (kind_tree m l))) (sym c.in-Tuple.is)
     (sym c.in-Tuple-other.is) (tuples_start m c.in-Tuple.tys c.in-Tuple-other.others n.result n.ensures.left n.ensures.right)
 
-pub returns-in-Ref : goal.returns-in-Ref
-returns-in-Ref g c =
+pub returns-else-ne : goal.returns-else-ne
+returns-else-ne g c =
     let m = g.I.Interner.meaning c.args.cx.now in
     let x = c.in-Ref in
     let y = c.in-Ref-other in
@@ -60,16 +60,16 @@ returns-in-Ref g c =
     (subst (λ u. AreOfPlainForm (kind_tree m (Ref x.field-0 x.field-1 x.mutability))
     (kind_tree m (Ref y.field-0 y.field-1 u)) 2) same (refs_plain m x.field-0 y.field-0 x.field-1 y.field-1 x.mutability))
 
-pub returns-in-Adt : goal.returns-in-Adt
-returns-in-Adt g c =
+pub returns-in-Adt-other : goal.returns-in-Adt-other
+returns-in-Adt-other g c =
     let m = g.I.Interner.meaning c.args.cx.now in
     let n = c.equal_items in
     subst₂ (λ k l. IfSome n.result (AreOfPlainForm (kind_tree m k) (kind_tree m l))) (sym c.in-Adt.is)
     (sym c.in-Adt-other.is) (adts_start m c.in-Adt.def c.in-Adt-other.of_other c.in-Adt.args c.in-Adt-other.others n.result
     n.ensures.item n.ensures.left n.ensures.right)
 
-pub returns-in-Alias : goal.returns-in-Alias
-returns-in-Alias g c =
+pub returns-in-Alias-other : goal.returns-in-Alias-other
+returns-in-Alias-other g c =
     let m = g.I.Interner.meaning c.args.cx.now in
     let n = c.equal_items-in-Alias in
     subst₂ (λ k l. IfSome n.result (AreOfPlainForm (kind_tree m k) (kind_tree m l))) (sym c.in-Alias.is)
