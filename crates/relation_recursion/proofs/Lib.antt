@@ -1,7 +1,6 @@
 pub mod Alone
 pub mod Arguments
 pub mod AsParts
-pub mod Beginnings
 pub mod Bodies
 pub mod ByParts
 pub mod Compared

@@ -7,4 +7,3 @@ pub mod Forms
 pub mod Keeping
 pub mod Makers
 pub mod PredicateForms
-pub mod Starting

@@ -11,5 +11,4 @@ mod opening;
 mod parts;
 mod reading;
 pub mod relatable;
-mod starting;
 pub mod structural;
