@@ -1,7 +1,8 @@
 -- What is found among pairs that are remembered.
-use Rattle.std.proofs.Common.{◌≡◌, Bool, true, ◌&&◌, List, Contains, rules}
+use Rattle.std.proofs.Common.{◌≡◌, ◌⊎◌, inl, inr, sym, Bool, true, ◌&&◌, List, [], ◌∷◌, ◌++◌, Contains, rules}
 use Rattle.std.specs.List.{list_any}
 use Rattle.std.proofs.lemmas.Bool.{and_parts}
+use Rattle.std.proofs.lemmas.List.Elements.{Contains-push_cases}
 use Rattle.std.proofs.lemmas.List.Folds.{Any-from_list_any}
 use Rattle.term_enums.specs.declared.Variance.{Variance}
 use Rattle.term_enums.specs.contracts.VariancePartialEq.TheImpl.{ghosts}
@@ -19,3 +20,10 @@ found_pair v g h ps found =
     let both = and_parts (ghosts.eq v (a.1).0 && g (a.1).1) (h (a.1).2) a.4 in
     let first = and_parts (ghosts.eq v (a.1).0) (g (a.1).1) both.0 in
     (a.1, (a.0, a.2, a.3), variance_is v (a.1).0 first.0, first.1, both.1)
+
+-- A member of a list with one more is that one, or one of the others.
+pub newest : {T : Type 0} (xs : List T) (x y : T) → Contains (xs ++ x ∷ []) y → (y ≡ x) ⊎ Contains xs y
+newest xs x y h = elim (Contains-push_cases xs x y h) [
+  | inl k ↦ inr k
+  | inr e ↦ inl (sym e)
+]

@@ -4,7 +4,9 @@
 ghost use Rattle.std.specs.Prelude.{◌≡◌, ◌⊎◌, [], Contains, IsTrue, OnErr};
 ghost use Rattle.remembered_pairs.specs.Remembering.{IsRemembered};
 
-use delayed_map::DelayedSet;
+mod kept;
+
+use kept::KeptValues;
 use std::alloc::Global;
 use std::hash::Hash;
 use term_enums::{OutOfMemory, Variance};
@@ -12,7 +14,7 @@ use term_enums::{OutOfMemory, Variance};
 /// Pairs that were related, each with the variance at which it was: all but the first 32.
 #[derive(Drop)]
 pub struct RememberedPairs<T: Eq + Hash> {
-    pairs: DelayedSet<(Variance, T, T)>,
+    pairs: KeptValues<(Variance, T, T)>,
 }
 
 impl<T: Eq + Hash + Copy> RememberedPairs<T> {
@@ -21,11 +23,12 @@ impl<T: Eq + Hash + Copy> RememberedPairs<T> {
         ensures { result.pairs.kept ≡ [] }
     {
         RememberedPairs {
-            pairs: DelayedSet::new(alloc),
+            pairs: KeptValues::new(alloc),
         }
     }
 
     /// Whether a pair of two that equal these is remembered at the variance.
+    #[inline(always)]
     pub fn contains(&self, variance: Variance, a: &T, b: &T) -> bool
         ensures { IsTrue result → IsRemembered T.eq variance a.now b.now self.now.pairs.kept }
     {
