@@ -1,6 +1,6 @@
 -- Edges added, one after another.
 use borrow.Author.Count.{below_more}
-use Rattle.std.proofs.Common.{◌≡◌, ℕ, ◌<◌, ◌≤◌, ◌+◌, List, [], ◌∷◌, ◌++◌, length, get_or, ◌∙◌, ap, subst, arith}
+use Rattle.std.proofs.Common.{◌≡◌, ℕ, ◌<◌, ◌≤◌, ◌+◌, List, [], ◌∷◌, ◌++◌, length, get_or, ◌∙◌, ap, refl, subst, arith}
 use Rattle.std.proofs.lemmas.List.{get_or_append_left, get_or_push}
 use Rattle.relation_regions.specs.declared.graph.Graph.{Graph}
 use Rattle.relation_regions.specs.declared.building.Pairs.{Pairs}
@@ -14,6 +14,28 @@ column_kept old new x i is lt = ap (λ l. get_or l i 0) is ∙ get_or_append_lef
 
 column_last : (old new : List ℕ) (x i : ℕ) → new ≡ old ++ x ∷ [] → length old ≡ i → get_or new i 0 ≡ x
 column_last old new x i is e = ap (λ l. get_or l i 0) is ∙ get_or_push old x 0 i e
+
+-- None was added yet.
+extends_itself : (g : Graph) → IsGraph g → Extends g 0 g
+extends_itself g graph = record {
+  graph = graph;
+  nodes = refl;
+  count = omega arith;
+  same_from = λ i lt. refl;
+  same_to = λ i lt. refl;
+}
+
+pub no_pairs : (g : Graph) (p : Pairs) → IsGraph g → AddsPairs g p 0 g
+no_pairs g p graph = record {
+  extends = extends_itself g graph;
+  has = record { longer = λ k lt. absurd (omega (arith, lt)); shorter = λ k lt. absurd (omega (arith, lt)) };
+}
+
+pub no_static : (g : Graph) → IsGraph g → AddsStatic g 0 g
+no_static g graph = record {
+  extends = extends_itself g graph;
+  has = record { from_static = λ k lt. absurd (omega (arith, lt)); to_each = λ k lt. absurd (omega (arith, lt)) };
+}
 
 module _ (g h k : Graph) (n a b : ℕ) (e : Extends g n h) (graph : IsGraph k)
     (nodes : length k.latest.items ≡ length h.latest.items) (from_is : k.from.items ≡ h.from.items ++ a ∷ [])
