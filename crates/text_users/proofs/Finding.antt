@@ -1,13 +1,12 @@
 -- What a table holds of methods, and finds.
-use Rattle.std.proofs.Common.{◌≡◌, ℕ, ◌+◌, ◌<◌, ◌⊎◌, inl, inr, List, [], ◌∷◌, ◌++◌, map, take, get_or, length, refl, sym, ap, ◌∙◌, subst, Contains}
+use Rattle.std.proofs.Common.{◌≡◌, ℕ, ◌+◌, ◌<◌, List, [], ◌∷◌, ◌++◌, map, take, get_or, length, refl, sym, ap, ◌∙◌, subst, Contains}
 use Rattle.std.specs.List.{All}
 use Rattle.std.proofs.lemmas.List.{take_more, map-append}
 use Rattle.std.proofs.lemmas.List.Elements.{All-push, All-weaker, Contains-push, Contains-append_left}
 use Rattle.relation_terms.specs.Meaning.{Meaning}
-use Rattle.relation_terms.specs.declared.terms.binder.Binder.{Binder}
 use Rattle.relation_terms.specs.declared.terms.keys.TyKey.{TyKey}
-use Rattle.elaboration_worklist.proofs.Members.{map_in}
-use Rattle.relation_methods.specs.Methods.{MethodEntry, Appends, AreApart, LeavesOutApart}
+use Rattle.relation_methods.specs.Methods.{MethodEntry, Appends, LeavesOutApart}
+use Rattle.relation_methods.proofs.Finding.{value_found}
 use Rattle.text_users.specs.Found.{Holds, IsFoundOrApart}
 use Rattle.text_users.specs.declared.methods.GenericMethod.{GenericMethod}
 
@@ -29,13 +28,8 @@ module _ {Key Id Name N : Type 0} (m : Meaning Key Id Name) where
       (names : List N) → All (Holds es) ms → LeavesOutApart m t es found → names ≡ map (λ (e : MethodEntry Key Id N). e.value) found →
       All (IsFoundOrApart m t names) ms
   all_found t ms es found names held leaves n =
-      All-weaker (Holds es) (IsFoundOrApart m t names) (λ x p. told x p (leaves p.0 p.1)) ms held
-    where
-      told : (x : GenericMethod Key N) (p : Holds es x) → Contains found p.0 ⊎ AreApart m ((p.0).of).value t →
-          IsFoundOrApart m t names x
-      told x p (inl k) = inl (subst (λ v. Contains names v) p.3
-          (subst (λ ns. Contains ns (p.0).value) (sym n) (map_in (λ (e : MethodEntry Key Id N). e.value) found p.0 k)))
-      told x p (inr k) = inr (subst (λ (b : Binder Key (TyKey Key)). AreApart m b.value t) p.2 k)
+      All-weaker (Holds es) (IsFoundOrApart m t names)
+      (λ x p. value_found m t es found names x.of x.name p.0 leaves p.1 p.2 p.3 n) ms held
 
 -- One more name, of the next member of a list.
 pub named_more : {E N : Type 0} (xs : List E) (f : E → N) (x : E) (i : ℕ) (before after : List N) → x ≡ get_or xs i x →

@@ -115,14 +115,12 @@ pub fn ask_overlap<C: HasVariables>(
 /// `fmt::Error` where `out` refused to take some of the text. What it took before stands.
 pub fn write_why_not<W: Write>(why: WhyNot, out: &mut W) -> fmt::Result {
     out.write_str("not asked: ")?;
-    match why {
-        WhyNot::Lengths => out.write_str("one list has more arguments than the other"),
-        WhyNot::Unfixed => out.write_str(
-            "a variable or a parameter stands in a header that does not bind it",
-        ),
+    out.write_str(match why {
+        WhyNot::Lengths => "one list has more arguments than the other",
+        WhyNot::Unfixed => "a variable or a parameter stands in a header that does not bind it",
         WhyNot::Unfit(Unfit::LaterUniverse(_)) => {
-            out.write_str("the context's universe does not name the placeholder")
+            "the context's universe does not name the placeholder"
         }
-        WhyNot::Unfit(_) => out.write_str("a binder in a header does not bind by its list"),
-    }
+        WhyNot::Unfit(_) => "a binder in a header does not bind by its list",
+    })
 }

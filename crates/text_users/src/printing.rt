@@ -9,7 +9,7 @@ use may_relate::HasVariables;
 use relation_regions::{RecordedRegions, RegionOutlivesPredicate, Solved};
 use relation_semantics::infer_ctxt::InferCtxtLike;
 use relation_terms::predicate::RegionConstraint;
-use relation_terms::terms::{GenericArgKind, Interner, Keys, Region, RegionKind};
+use relation_terms::terms::{GenericArgKind, Interner, Keys, Region, RegionKind, UniverseIndex};
 use std::fmt::{self, Write};
 use text_terms::printing::{TextsOf, write_region};
 
@@ -18,28 +18,26 @@ fn universe_of<C: HasVariables>(ctx: &C, region: &Region<C::Interner>) -> usize
     requires lawful { (C.state ctx.now).lawful }
     requires known { IsTrue (known (((C.state ctx.now).meaning).region region.now)) }
 {
-    let RegionKind::ReVar(vid) = ctx.cx().region_kind(region) else {
-        return 0;
-    };
-    if !ctx.has_region_var(vid) {
-        return 0;
-    }
-    match ctx.universe_of_lt(vid) {
-        Some(universe) => universe.0,
-        None => 0,
+    match ctx.cx().region_kind(region) {
+        RegionKind::ReVar(vid) if ctx.has_region_var(vid) => {
+            ctx.universe_of_lt(vid).unwrap_or(UniverseIndex(0)).0
+        }
+        _ => 0,
     }
 }
 
-// Writes a region, and behind a variable its universe, unless that is the first one.
+// Writes a text, then a region, and behind a variable its universe, unless that is the first one.
 fn write_placed<C: HasVariables, W: Write>(
     ctx: &C,
     texts: &TextsOf<C::Interner>,
+    before: &str,
     region: &Region<C::Interner>,
     out: &mut W,
 ) -> fmt::Result
     requires lawful { (C.state ctx.now).lawful }
     requires known { IsTrue (known (((C.state ctx.now).meaning).region region.now)) }
 {
+    out.write_str(before)?;
     write_region(ctx.cx(), texts, region, out)?;
     match universe_of(ctx, region) {
         0 => Ok(()),
@@ -47,10 +45,11 @@ fn write_placed<C: HasVariables, W: Write>(
     }
 }
 
-// Writes two regions, with a text between.
+// Writes two regions, with a text before each.
 fn write_pair<C: HasVariables, W: Write>(
     ctx: &C,
     texts: &TextsOf<C::Interner>,
+    before: &str,
     first: &Region<C::Interner>,
     between: &str,
     second: &Region<C::Interner>,
@@ -60,15 +59,15 @@ fn write_pair<C: HasVariables, W: Write>(
     requires first_known { IsTrue (known (((C.state ctx.now).meaning).region first.now)) }
     requires second_known { IsTrue (known (((C.state ctx.now).meaning).region second.now)) }
 {
-    write_placed(ctx, texts, first, out)?;
-    out.write_str(between)?;
-    write_placed(ctx, texts, second, out)
+    write_placed(ctx, texts, before, first, out)?;
+    write_placed(ctx, texts, between, second, out)
 }
 
-// Writes a constraint on regions.
+// Writes a text, then a constraint on regions.
 fn write_constraint<C: HasVariables, W: Write>(
     ctx: &C,
     texts: &TextsOf<C::Interner>,
+    before: &str,
     constraint: &RegionConstraint<<C::Interner as Keys>::Key>,
     out: &mut W,
 ) -> fmt::Result
@@ -77,10 +76,12 @@ fn write_constraint<C: HasVariables, W: Write>(
         ConstraintIn c.store (constraint_of c.meaning constraint.now) }
 {
     match constraint {
-        RegionConstraint::Eq(equal) => { write_pair(ctx, texts, &equal.0, " == ", &equal.1, out) }
+        RegionConstraint::Eq(equal) => {
+            write_pair(ctx, texts, before, &equal.0, " == ", &equal.1, out)
+        }
         RegionConstraint::Outlives(outlives) => match &outlives.0 {
             GenericArgKind::Lifetime(longer) => {
-                write_pair(ctx, texts, longer, ": ", &outlives.1, out)
+                write_pair(ctx, texts, before, longer, ": ", &outlives.1, out)
             }
             GenericArgKind::Ty(_) => unreachable!(),
             GenericArgKind::Const(_) => unreachable!(),
@@ -114,15 +115,16 @@ fn write_by<C: RecordedRegions + HasVariables, W: Write>(
     let mut any = false;
     for number in by {
         if let Some(constraint) = constraint_at(constraints, *number) {
-            out.write_str(if any { ", " } else { ", by " })?;
-            write_constraint(ctx, texts, &constraint, out)?;
+            let before = if any { ", " } else { ", by " };
+            write_constraint(ctx, texts, before, &constraint, out)?;
             any = true;
         }
     }
     Ok(())
 }
 
-// Writes what each variable has to outlive: those of one variable that stand together are one list.
+// Writes that all can be so, and what each variable has to outlive: those of one variable that stand together are one
+// list.
 fn write_values<C: HasVariables, W: Write>(
     ctx: &C,
     texts: &TextsOf<C::Interner>,
@@ -135,20 +137,14 @@ fn write_values<C: HasVariables, W: Write>(
     let mut last = None;
     for value in values {
         if last == Some(value.0) {
-            out.write_str(", ")?;
+            write_placed(ctx, texts, ", ", &value.1, out)?;
         } else {
-            out.write_str(if last.is_some() { "], " } else { "; " })?;
-            write_placed(ctx, texts, &value.0, out)?;
-            out.write_str("=[")?;
+            let before = if last.is_some() { "], " } else { "met; " };
+            write_pair(ctx, texts, before, &value.0, "=[", &value.1, out)?;
         }
-        write_region(ctx.cx(), texts, &value.1, out)?;
         last = Some(value.0);
     }
-    if values.is_empty() {
-        Ok(())
-    } else {
-        out.write_str("]")
-    }
+    out.write_str(if values.is_empty() { "met" } else { "]" })
 }
 
 /// Writes what was answered: `met; '?0=['a, 'b]`, of each variable the given regions that it has to outlive, if any; or
@@ -169,17 +165,13 @@ pub fn write_solved<C: RecordedRegions + HasVariables, W: Write>(
     requires known { KnowsSolved (C.state ctx.now).meaning solved.now }
 {
     match solved {
-        Solved::Met(values) => {
-            out.write_str("met")?;
-            write_values(ctx, texts, values, out)
-        }
+        Solved::Met(values) => write_values(ctx, texts, values, out),
         Solved::Unmet {
             longer,
             shorter,
             by,
         } => {
-            out.write_str("unmet: ")?;
-            write_pair(ctx, texts, longer, ": ", shorter, out)?;
+            write_pair(ctx, texts, "unmet: ", longer, ": ", shorter, out)?;
             write_by(ctx, texts, by, out)
         }
     }
