@@ -40,5 +40,6 @@ pub fn solve(
     let none = Pairs::new(alloc);
     let alone = built(alloc, standings.len(), &none, known)?;
     let graph = built(alloc, standings.len(), asked, known)?;
-    decide(alloc, &alone, &graph, asked.shorter.len(), standings)
+    let copy = built(alloc, standings.len(), asked, known)?;
+    decide(alloc, &alone, &graph, copy, asked.shorter.len(), standings)
 }
