@@ -1,5 +1,5 @@
 -- What is solved of a problem is so of the regions of the context.
-use Rattle.std.proofs.Common.{◌≡◌, ℕ, ◌<◌, List, [], ◌∷◌, length, get_or, sym, ◌∙◌, refl, subst, arith, All, map}
+use Rattle.std.proofs.Common.{◌≡◌, ℕ, ◌<◌, ◌≤◌, ◌^◌, List, [], ◌∷◌, length, get_or, sym, ◌∙◌, refl, subst, arith, All, map}
 use Rattle.std.specs.Prelude.{IsPermutation}
 use Rattle.std.proofs.lemmas.List.{get_or_default, get_or-map, length-map}
 use Rattle.std.proofs.lemmas.List.Sorted.{Contains-permutation, IsPermutation-sym}
@@ -39,6 +39,7 @@ none_numbered tree st keys standings e f =
       regions = λ i d lt. absurd (omega (arith, lt));
       stand = refl;
       distinct = λ i j lt. absurd (omega (arith, lt));
+      fits = omega arith;
     } in
     subst (λ k. AreNumbered st (map tree k) standings) (sym e) (subst (λ s. AreNumbered st [] s) (sym f) none)
 
@@ -86,6 +87,13 @@ values_below facts st tree keys standings asked said known values problem meets 
     let h = meets.only v.0 v.1 (i, lt, get_or_default values i v d lt) in
     let e : length standings ≡ length keys = standings_each problem ∙ length-map keys tree in
     (subst (λ n. v.0 < n) e (h.0).0, subst (λ n. v.1 < n) e (h.1).0)
+
+-- The regions have numbers of 32 bits.
+pub regions_fit : {Key : Type 0} (facts : List (Tree × Tree)) (st : Store) (tree : RegionKey Key → Tree)
+    (keys : List (RegionKey Key)) (standings : List Standing) (asked : Pairs) (said : List ℕ) (known : Pairs) →
+    IsProblem facts st (map tree keys) standings asked said known → length keys ≤ 2 ^ 32
+regions_fit facts st tree keys standings asked said known problem =
+    subst (λ n. n ≤ 2 ^ 32) (length-map keys tree) (problem.are_numbered).fits
 
 -- A given number is below it.
 pub number_below : {Key : Type 0} (facts : List (Tree × Tree)) (st : Store) (tree : RegionKey Key → Tree)

@@ -13,7 +13,7 @@ use Rattle.relation_semantics.specs.Stores.{Store, IsRegionIn, IsTermIn, InConte
 use Rattle.relation_regions.specs.declared.standing.Standing.{Standing}
 use Rattle.relation_regions.proofs.Columns.{length_more}
 use Rattle.relation_regions.specs.Worlds.{static}
-use Rattle.relation_regions.specs.Numbering.{Adds, same, put_last}
+use Rattle.relation_regions.specs.Numbering.{AddsRegion, same, put_last}
 use Rattle.relation_regions.specs.Reading.{standing_in, numbered, IsAt, AreDistinct, AreNumbered, GrowsBy}
 use Rattle.relation_regions.proofs.ReadPairs.{grows_same, grows_pushed}
 
@@ -95,12 +95,12 @@ module _ {Key : Type 0} (tree : RegionKey Key → Tree) (eq : RegionKey Key → 
     pushed e = ap (map tree) e ∙ map-append tree keys (region ∷ [])
 
     -- One more region.
-    pub numbered_more : AreNumbered st (map tree keys) standings → Adds eq region standing keys standings keys' standings' →
+    pub numbered_more : AreNumbered st (map tree keys) standings → AddsRegion eq region standing keys standings keys' standings' →
         AreNumbered st (map tree keys') standings'
     numbered_more h (same e f) =
         subst (λ k. AreNumbered st (map tree k) standings') (sym e)
         (subst (λ s. AreNumbered st (map tree keys) s) (sym f) h)
-    numbered_more h (put_last lacks e f) =
+    numbered_more h (put_last lacks e f small) =
         let trees : List Tree = map tree keys in
         let t : Tree = tree region in
         let new : AreNumbered st (trees ++ t ∷ []) (standings ++ standing ∷ []) = record {
@@ -108,19 +108,20 @@ module _ {Key : Type 0} (tree : RegionKey Key → Tree) (eq : RegionKey Key → 
           stand = ap (λ l. l ++ standing ∷ []) h.stand ∙ (ap (λ s. map (standing_in st) trees ++ s ∷ []) stands ∙
               sym (map-append (standing_in st) trees (t ∷ [])));
           distinct = distinct_more trees t h.distinct (lacks_tree keys h.regions lacks);
+          fits = omega (arith, length_more trees t, length-map keys tree, small);
         } in
         subst (λ l. AreNumbered st l standings') (sym (pushed e))
         (subst (λ s. AreNumbered st (trees ++ t ∷ []) s) (sym f) new)
 
-    pub more_numbered : Adds eq region standing keys standings keys' standings' →
+    pub more_numbered : AddsRegion eq region standing keys standings keys' standings' →
         GrowsBy (λ t. t ≡ tree region) (map tree keys) (map tree keys')
     more_numbered (same e f) = grows_same (λ t. t ≡ tree region) (map tree keys) (map tree keys') (ap (map tree) e)
-    more_numbered (put_last lacks e f) = subst (λ l. GrowsBy (λ t. t ≡ tree region) (map tree keys) l)
+    more_numbered (put_last lacks e f small) = subst (λ l. GrowsBy (λ t. t ≡ tree region) (map tree keys) l)
         (sym (pushed e)) (grows_pushed (map tree keys) (tree region))
 
     -- The number that it gets has its tree.
     pub number_answer : {E : Type 0} (r : Result ℕ E) → AreNumbered st (map tree keys) standings →
-        OnOk r (Adds eq region standing keys standings keys' standings') → IfOk r (HasAt eq keys' region) →
+        OnOk r (AddsRegion eq region standing keys standings keys' standings') → IfOk r (HasAt eq keys' region) →
         IfOk r (λ i. IsAt (map tree keys') i (tree region))
     number_answer (Ok i) h adds has = number_at keys' i (numbered_more h adds).regions has
     number_answer (Err e) h adds has = tt

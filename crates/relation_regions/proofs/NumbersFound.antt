@@ -1,5 +1,5 @@
 -- Which number a region gets.
-use Rattle.std.proofs.Common.{◌≡◌, ℕ, ◌<◌, ◌≤◌, ◌+◌, List, [], ◌∷◌, ◌++◌, length, get_or, ap, refl, subst, arith}
+use Rattle.std.proofs.Common.{◌≡◌, ℕ, ◌<◌, ◌≤◌, ◌+◌, ◌^◌, List, [], ◌∷◌, ◌++◌, length, get_or, ap, refl, subst, arith}
 use Rattle.std.proofs.Common.{◌⊎◌, inl, inr, Bool, IsTrue, ◌∙◌, sym, map, take}
 use Rattle.std.proofs.lemmas.List.{get_or_append_left, get_or-map, map_push, take_more}
 use Rattle.node_table.specs.Finding.{HasAt}
@@ -9,14 +9,14 @@ use Rattle.relation_regions.proofs.Columns.{length_more}
 use Rattle.relation_terms.specs.declared.predicate.regions.OutlivesPredicate.{OutlivesPredicate}
 use Rattle.relation_terms.specs.Trees.{Tree}
 use Rattle.relation_regions.specs.Worlds.{static}
-use Rattle.relation_regions.specs.Numbering.{Adds, same, put_last, IsRegionAt, regions_at, AreRegionsOf}
+use Rattle.relation_regions.specs.Numbering.{AddsRegion, same, put_last, IsRegionAt, regions_at, AreRegionsOf}
 
 module _ {Key : Type 0} (eq : RegionKey Key → RegionKey Key → Bool) (region : RegionKey Key) (standing : Standing)
     (keys keys' : List (RegionKey Key)) (standings : List Standing) (number : ℕ)
     (there : (i : ℕ) → HasAt eq keys region i → keys' ≡ keys) (has : HasAt eq keys' region number)
     (added : (keys' ≡ keys) ⊎ (keys' ≡ keys ++ region ∷ [])) where
   -- A number below the count is an old one.
-  pub old_number : number < length keys → Adds eq region standing keys standings keys' standings
+  pub old_number : number < length keys → AddsRegion eq region standing keys standings keys' standings
   old_number lt = elim added [
     | inl e ↦ same e refl
     | inr e ↦
@@ -29,15 +29,16 @@ module _ {Key : Type 0} (eq : RegionKey Key → RegionKey Key → Bool) (region 
   ]
 
   -- Another one is new.
-  pub new_number : (standings' : List Standing) → length keys ≤ number → standings' ≡ standings ++ standing ∷ [] →
-      Adds eq region standing keys standings keys' standings'
-  new_number standings' le is = elim added [
+  pub new_number : (standings' : List Standing) → length keys ≤ number → number < 2 ^ 32 →
+      standings' ≡ standings ++ standing ∷ [] →
+      AddsRegion eq region standing keys standings keys' standings'
+  new_number standings' le small is = elim added [
     | inl e ↦ absurd (omega (arith, has.0, le, ap (λ (l : List (RegionKey Key)). length l) e))
     | inr e ↦ put_last (λ i old. absurd (omega (
       arith,
       ap (λ (l : List (RegionKey Key)). length l) (sym e ∙ there i old),
       length_more keys region,
-    ))) e is
+    ))) e is (omega (arith, le, small))
   ]
 
 -- What is read at a number is its region.

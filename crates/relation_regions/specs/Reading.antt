@@ -1,5 +1,5 @@
 -- Regions of a context that have numbers, and pairs of numbers that say what constraints do.
-use Rattle.std.specs.Prelude.{◌≡◌, ◌⊎◌, ℕ, ◌<◌, List, [], ◌∷◌, ◌++◌, All, length, get_or, map, Contains}
+use Rattle.std.specs.Prelude.{◌≡◌, ◌⊎◌, ℕ, ◌<◌, ◌≤◌, ◌^◌, List, [], ◌∷◌, ◌++◌, All, length, get_or, map, Contains}
 use Rattle.relation_terms.specs.Heads.{region_var, Leaf, variable, bound, placeholder, atom, unknown}
 use Rattle.relation_terms.specs.Trees.{Tree, leaf, node, bind, nil, cons}
 use Rattle.relation_terms.specs.declared.terms.keys.RegionKey.{RegionKey}
@@ -37,11 +37,12 @@ IsAt trees i t = (i < length trees) × (numbered trees i ≡ t)
 abbrev pub AreDistinct : List Tree → Type 0
 AreDistinct trees = (i j : ℕ) → i < length trees → j < length trees → numbered trees i ≡ numbered trees j → i ≡ j
 
--- Regions of a context are numbered, none twice, and it is known what each is.
+-- Regions of a context are numbered, by 32 bits and none twice, and it is known what each is.
 pub record AreNumbered (st : Store) (trees : List Tree) (standings : List Standing) : Type 0 where
   pub regions : All (IsRegionIn st) trees
   pub stand : standings ≡ map (standing_in st) trees
   pub distinct : AreDistinct trees
+  pub fits : length trees ≤ 2 ^ 32
 
 -- All keep their numbers, and of such a kind are those that get one.
 pub record GrowsBy (P : Tree → Type 0) (before after : List Tree) : Type 0 where

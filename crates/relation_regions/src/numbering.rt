@@ -1,10 +1,10 @@
 //! Regions, each of which has a number.
-ghost use Rattle.std.specs.Prelude.{◌≡◌, ◌<◌, [], All, length, IfOk, OnOk};
+ghost use Rattle.std.specs.Prelude.{◌≡◌, ◌<◌, ◌≤◌, ◌^◌, [], All, length, IfOk, OnOk};
 ghost use Rattle.node_table.specs.Finding.{HasAt};
-ghost use Rattle.relation_regions.specs.Numbering.{Adds, IsRegionAt, AreRegionsOf, AreBelow};
+ghost use Rattle.relation_regions.specs.Numbering.{AddsRegion, IsRegionAt, AreRegionsOf, AreBelow};
 
 use crate::standing::Standing;
-use node_table::{NodeTable, next_number};
+use node_table::NodeTable;
 use relation_terms::predicate::OutlivesPredicate;
 use relation_terms::terms::RegionKey;
 use std::alloc::Global;
@@ -40,7 +40,7 @@ impl<X: Copy + Eq + Hash> Regions<X> {
     ) -> Result<usize, OutOfMemory>
         requires { length self.old.standings.items ≡ length self.old.table }
         ensures number { IfOk result (HasAt (λ k l. X.eq k.0 l.0) self.new.table region) }
-        ensures adds { OnOk result (Adds (λ k l. X.eq k.0 l.0) region standing
+        ensures adds { OnOk result (AddsRegion (λ k l. X.eq k.0 l.0) region standing
             self.old.table self.old.standings.items self.new.table self.new.standings.items) }
     {
         let number = self.table.add(region)? as usize;
@@ -52,12 +52,12 @@ impl<X: Copy + Eq + Hash> Regions<X> {
     }
 
     /// The region of a number.
-    pub(crate) fn region(&self, number: usize) -> Result<RegionKey<X>, OutOfMemory>
-        requires { number < length self.now.table }
-        ensures { IfOk result (IsRegionAt self.now.table number) }
+    pub(crate) fn region(&self, number: usize) -> RegionKey<X>
+        requires below { number < length self.now.table }
+        requires fits { length self.now.table ≤ 2 ^ 32 }
+        ensures { IsRegionAt self.now.table number result }
     {
-        let place = next_number(number)?;
-        Ok(*self.table.node(place))
+        *self.table.node(number as u32)
     }
 
     /// The regions of pairs of numbers.
@@ -66,13 +66,14 @@ impl<X: Copy + Eq + Hash> Regions<X> {
         alloc: Global,
         pairs: &[(usize, usize)],
     ) -> Result<Vec<OutlivesPredicate<X, RegionKey<X>>>, OutOfMemory>
-        requires { All (AreBelow (length self.now.table)) pairs.now }
+        requires below { All (AreBelow (length self.now.table)) pairs.now }
+        requires fits { length self.now.table ≤ 2 ^ 32 }
         ensures { IfOk result (λ regions. AreRegionsOf self.now.table pairs.now regions.items) }
     {
         let mut regions = Vec::new(alloc);
         for pair in pairs {
-            let longer = self.region(pair.0)?;
-            let shorter = self.region(pair.1)?;
+            let longer = self.region(pair.0);
+            let shorter = self.region(pair.1);
             regions.push(OutlivesPredicate(longer, shorter))?;
         }
         Ok(regions)

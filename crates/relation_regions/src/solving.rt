@@ -112,8 +112,8 @@ fn solve_given<C: RecordedRegions>(
             by,
         } => {
             let by = asked_by(alloc, &problem.asked, by.as_slice())?;
-            let longer = problem.regions.region(longer)?;
-            let shorter = problem.regions.region(shorter)?;
+            let longer = problem.regions.region(longer);
+            let shorter = problem.regions.region(shorter);
             Ok(Solved::Unmet {
                 longer,
                 shorter,

@@ -4,7 +4,7 @@ use Rattle.relation_regions.specs.Building.{ArePairs}
 use Rattle.relation_regions.specs.Numbering.{AreBelow, regions_at}
 use Rattle.relation_regions.specs.Reading.{trees_of, numbered}
 use Rattle.relation_regions.specs.Solving.{region_pairs}
-use Rattle.relation_regions.proofs.Answered.{facts_speak, values_below, number_below, places_below}
+use Rattle.relation_regions.proofs.Answered.{facts_speak, values_below, number_below, places_below, regions_fit}
 use Rattle.relation_regions.proofs.Answered.{met_of, unmet_of, meets_sorted, least_like, unmet_like}
 use Rattle.relation_regions.proofs.Numbers.{asked_pairs, known_pairs}
 use Rattle.relation_regions.proofs.Decided.{has_solution, are_least, is_unmet}
@@ -18,8 +18,8 @@ pub solve-requires-clause-known : goal.solve-requires-clause-known
 solve-requires-clause-known g c = subst (λ s. ArePairs (length s) c.in_ok-problem.problem.known.pairs)
     (sym c.as_slice-standings.ensures.value) (known_pairs c.in_ok-problem.ensures)
 
-pub regions_of-requires : goal.regions_of-requires
-regions_of-requires g c =
+pub regions_of-requires-clause-below : goal.regions_of-requires-clause-below
+regions_of-requires-clause-below g c =
     let m = g.C.InferCtxtLike.state c.args.ctx.now in
     let p = c.in_ok-problem.problem in
     let found = met_of p.regions.standings.items c.as_slice-standings.result.now p.asked.pairs p.known.pairs
@@ -30,6 +30,14 @@ regions_of-requires g c =
     (values_below (region_pairs m.meaning c.args.facts.now) m.store (m.meaning).region p.regions.table
     p.regions.standings.items p.asked.pairs p.asked.asked_by.items p.known.pairs
     c.sort_unstable.new.self.items c.in_ok-problem.ensures meets)
+
+-- Their numbers have 32 bits.
+pub regions_of-requires-clause-fits : goal.regions_of-requires-clause-fits
+regions_of-requires-clause-fits g c =
+    let m = g.C.InferCtxtLike.state c.args.ctx.now in
+    let p = c.in_ok-problem.problem in
+    regions_fit (region_pairs m.meaning c.args.facts.now) m.store (m.meaning).region p.regions.table
+    p.regions.standings.items p.asked.pairs p.asked.asked_by.items p.known.pairs c.in_ok-problem.ensures
 
 pub returns-in-Met-clause-met : goal.returns-in-Met-clause-met
 returns-in-Met-clause-met g c =
@@ -68,8 +76,8 @@ asked_by-requires g c =
     p.regions.standings.items p.asked.pairs p.asked.asked_by.items p.known.pairs c.in-Unmet.longer c.in-Unmet.shorter
     c.in-Unmet.by.items c.in_ok-problem.ensures refutes)
 
-pub region-requires : goal.region-requires
-region-requires g c =
+pub region-longer-requires-clause-below : goal.region-longer-requires-clause-below
+region-longer-requires-clause-below g c =
     let m = g.C.InferCtxtLike.state c.args.ctx.now in
     let p = c.in_ok-problem.problem in
     let refutes = unmet_of p.regions.standings.items c.as_slice-standings.result.now p.asked.pairs p.known.pairs
@@ -79,8 +87,15 @@ region-requires g c =
     p.regions.standings.items p.asked.pairs p.asked.asked_by.items p.known.pairs c.in-Unmet.longer
     c.in_ok-problem.ensures (refutes.longer_given).0
 
-pub region-requires-in-Unmet : goal.region-requires-in-Unmet
-region-requires-in-Unmet g c =
+pub region-longer-requires-clause-fits : goal.region-longer-requires-clause-fits
+region-longer-requires-clause-fits g c =
+    let m = g.C.InferCtxtLike.state c.args.ctx.now in
+    let p = c.in_ok-problem.problem in
+    regions_fit (region_pairs m.meaning c.args.facts.now) m.store (m.meaning).region p.regions.table
+    p.regions.standings.items p.asked.pairs p.asked.asked_by.items p.known.pairs c.in_ok-problem.ensures
+
+pub region-shorter-requires-clause-below : goal.region-shorter-requires-clause-below
+region-shorter-requires-clause-below g c =
     let m = g.C.InferCtxtLike.state c.args.ctx.now in
     let p = c.in_ok-problem.problem in
     let refutes = unmet_of p.regions.standings.items c.as_slice-standings.result.now p.asked.pairs p.known.pairs
@@ -89,6 +104,13 @@ region-requires-in-Unmet g c =
     number_below (region_pairs m.meaning c.args.facts.now) m.store (m.meaning).region p.regions.table
     p.regions.standings.items p.asked.pairs p.asked.asked_by.items p.known.pairs c.in-Unmet.shorter
     c.in_ok-problem.ensures (refutes.shorter_given).0
+
+pub region-shorter-requires-clause-fits : goal.region-shorter-requires-clause-fits
+region-shorter-requires-clause-fits g c =
+    let m = g.C.InferCtxtLike.state c.args.ctx.now in
+    let p = c.in_ok-problem.problem in
+    regions_fit (region_pairs m.meaning c.args.facts.now) m.store (m.meaning).region p.regions.table
+    p.regions.standings.items p.asked.pairs p.asked.asked_by.items p.known.pairs c.in_ok-problem.ensures
 
 pub returns-clause-unmet : goal.returns-clause-unmet
 returns-clause-unmet g c =
@@ -99,10 +121,10 @@ returns-clause-unmet g c =
     c.in_ok-values.field-0 c.in-Unmet.longer c.in-Unmet.shorter c.in-Unmet.by c.as_slice-standings.ensures.value
     c.in-Unmet.is c.in_ok-values.ensures.unmet in
     unmet_like (region_pairs m.meaning c.args.facts.now) m.store
-    (numbered (trees_of m p.regions.table) c.in-Unmet.longer) ((m.meaning).region c.in_ok-longer-in-Unmet.longer)
-    (numbered (trees_of m p.regions.table) c.in-Unmet.shorter) ((m.meaning).region c.in_ok-shorter-in-Unmet.shorter)
+    (numbered (trees_of m p.regions.table) c.in-Unmet.longer) ((m.meaning).region c.region-longer.result)
+    (numbered (trees_of m p.regions.table) c.in-Unmet.shorter) ((m.meaning).region c.region-shorter.result)
     (map (λ k. get_or said k 0) c.in-Unmet.by.items) c.in_ok-by-in-Unmet.by.items
-    (c.in_ok-longer-in-Unmet.ensures (m.meaning).region) (c.in_ok-shorter-in-Unmet.ensures (m.meaning).region)
+    (c.region-longer.ensures (m.meaning).region) (c.region-shorter.ensures (m.meaning).region)
     (c.in_ok-by-in-Unmet.ensures ∙ ap (λ (l : List ℕ). map (λ k. get_or said k 0) l) c.as_slice-in-Unmet.ensures.value)
     (is_unmet c.in_ok-problem.ensures (facts_speak m c.args.facts.now c.requires.facts_in) c.in-Unmet.longer
     c.in-Unmet.shorter c.in-Unmet.by.items refutes)

@@ -19,4 +19,4 @@ returns-clause-adds g c =
     new_number (λ k l. g.X.PartialEq.eq k.0 l.0) c.args.region c.args.standing c.args.self.now.table c.add.new.self
     c.args.self.now.standings.items c.in_ok-number.field-0
     (λ i h. (c.in_ok-number.ensures.there i h).1) c.in_ok-number.ensures.number
-    c.in_ok-number.ensures.added c.push.new.self.items le c.in_ok-push.ensures.items
+    c.in_ok-number.ensures.added c.push.new.self.items le (omega arith) c.in_ok-push.ensures.items

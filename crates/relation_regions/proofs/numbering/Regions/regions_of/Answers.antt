@@ -10,5 +10,5 @@ loop-pair-preserved g c =
     let pairs = c.args.pairs.now in
     let lt : i < length pairs = omega arith in
     regions_more c.args.self.now.table (take i pairs) (take (i + 1) pairs) (get_or pairs i (0, 0))
-    c.loop-pair.regions.items c.push.new.self.items c.in_ok-longer.longer c.in_ok-shorter.shorter c.loop-pair.invariant
-    c.in_ok-longer.ensures c.in_ok-shorter.ensures (take_more pairs i (0, 0) lt) c.in_ok-push.ensures.items
+    c.loop-pair.regions.items c.push.new.self.items c.region-longer.result c.region-shorter.result c.loop-pair.invariant
+    c.region-longer.ensures c.region-shorter.ensures (take_more pairs i (0, 0) lt) c.in_ok-push.ensures.items
