@@ -1,5 +1,5 @@
 -- What a visitor goes over that enters only what is fixed.
-use Rattle.std.proofs.Common.{◌≡◌, ℕ, Bool, false, true, cond, refl, List, Option, Some, None}
+use Rattle.std.proofs.Common.{◌≡◌, ◌∙◌, ℕ, Bool, false, true, cond, refl, sym, ap, List, Option, Some, None}
 use Rattle.std.specs.declared.ops.ControlFlow.TheVariants.{Continue, Break}
 use Rattle.relation_terms.specs.Heads.{type_var, int_var, float_var, const_var, region_var}
 use Rattle.relation_terms.specs.Heads.{BoundKind, Leaf, variable, bound, placeholder, atom, unknown, Atom, bool_type, char_type}
@@ -10,12 +10,26 @@ use Rattle.relation_terms.specs.Heads.{existential_auto, unstable_feature, ambig
 use Rattle.relation_terms.specs.Trees.{Tree, leaf, node, bind, nil, cons, Leaves}
 use Rattle.relation_terms.specs.Parts.{parts_of}
 use Rattle.relation_terms.specs.Orders.{Order, in_turn, first_last, behind, in_order, order_of}
+use Rattle.relation_terms.specs.declared.terms.ty_kind.TyKind.{TyKind}
+use Rattle.relation_terms.specs.declared.terms.ty_kind.TyKind.TheVariants.{Infer, Param}
+use Rattle.relation_terms.specs.declared.terms.ty_kind.InferTy.{InferTy}
+use Rattle.relation_terms.specs.declared.terms.ty_kind.InferTy.TheVariants.{TyVar, IntVar, FloatVar}
+use Rattle.relation_terms.specs.declared.terms.ty_kind.InferTy.TheVariants.{FreshTy, FreshIntTy, FreshFloatTy}
+use Rattle.relation_terms.specs.declared.terms.ty_kind.ParamTy.{ParamTy}
+use Rattle.relation_terms.specs.declared.terms.region_kind.RegionKind.{RegionKind}
+use Rattle.relation_terms.specs.declared.terms.region_kind.RegionKind.TheVariants.{ReVar}
+use Rattle.relation_terms.specs.declared.terms.numbers.RegionVid.{RegionVid}
+use Rattle.relation_terms.specs.declared.terms.const_kind.ConstKind.{ConstKind}
+use Rattle.relation_terms.specs.declared.terms.const_kind.ConstKind.TheVariants.{Infer as ConstInfer, Param as ConstParam}
+use Rattle.relation_terms.specs.declared.terms.const_kind.InferConst.{InferConst}
+use Rattle.relation_terms.specs.declared.terms.const_kind.InferConst.TheVariants.{Var, Fresh}
+use Rattle.relation_terms.specs.declared.terms.const_kind.ParamConst.{ParamConst}
 use Rattle.relation_folds.specs.declared.visit.Visit.TheVariants.{Enter, Skip, Stop}
 use Rattle.relation_folds.specs.Visits.{is_visited, Flow, Walks, entered, skipped, stopped}
 use Rattle.relation_folds.specs.Visits.{passed_leaf, passed, in_binder, no_part, last_part, next_part}
 use Rattle.fast_reject.specs.Instances.{IsNoVariable, IsNamed, AgreeOnNames}
 use Rattle.relation_semantics.proofs.Trees.{Leaves_map}
-use Rattle.relation_terms.specs.Meaning.{under}
+use Rattle.relation_terms.specs.Meaning.{Meaning, under, infer_tree, infer_const_tree, kind_tree, region_tree, const_tree}
 use Rattle.text_users.specs.Fixed.{is_fixed_atom, IsFixedLeaf, is_fixed, EntersFixed}
 
 -- What no visitor is asked about is fixed.
@@ -162,3 +176,39 @@ names_agree a b h k = record {
   left = Leaves_map IsFixedLeaf (IsNamed (λ i. i) (λ i. i)) named a h;
   right = Leaves_map IsFixedLeaf (IsNamed (λ i. i) (λ i. i)) named b k;
 }
+
+-- What a visitor answers by the form that is read, whose tree is the one that it is asked about.
+pub stops : (t u : Tree) → t ≡ u → is_fixed u ≡ false → EntersFixed t Stop
+stops t u e f = sym (ap (λ b. cond b Enter Stop) (ap is_fixed e ∙ f))
+
+pub enters : (t u : Tree) → t ≡ u → is_fixed u ≡ true → EntersFixed t Enter
+enters t u e f = sym (ap (λ b. cond b Enter Stop) (ap is_fixed e ∙ f))
+
+pub infer_unfixed : (i : InferTy) → is_fixed (infer_tree i) ≡ false
+infer_unfixed (TyVar v) = refl
+infer_unfixed (IntVar v) = refl
+infer_unfixed (FloatVar v) = refl
+infer_unfixed (FreshTy n) = refl
+infer_unfixed (FreshIntTy n) = refl
+infer_unfixed (FreshFloatTy n) = refl
+
+pub infer_const_unfixed : (i : InferConst) → is_fixed (infer_const_tree i) ≡ false
+infer_const_unfixed (Var v) = refl
+infer_const_unfixed (Fresh n) = refl
+
+module _ {Key Id Name : Type 0} (m : Meaning Key Id Name) where
+  pub kind_fixed : (k : TyKind Key Id Name) → ((i : InferTy) → k ≡ Infer i → ⊥) →
+      ((p : ParamTy Name) → k ≡ Param p → ⊥) → is_fixed (kind_tree m k) ≡ true
+  kind_fixed (Infer i) f g = absurd (f i refl)
+  kind_fixed (Param p) f g = absurd (g p refl)
+  kind_fixed k f g = refl
+
+  pub region_fixed : (k : RegionKind Name) → ((v : RegionVid) → k ≡ ReVar v → ⊥) → is_fixed (region_tree m k) ≡ true
+  region_fixed (ReVar v) f = absurd (f v refl)
+  region_fixed k f = refl
+
+  pub const_fixed : (k : ConstKind Key Id Name) → ((i : InferConst) → k ≡ ConstInfer i → ⊥) →
+      ((p : ParamConst Name) → k ≡ ConstParam p → ⊥) → is_fixed (const_tree m k) ≡ true
+  const_fixed (ConstInfer i) f g = absurd (f i refl)
+  const_fixed (ConstParam p) f g = absurd (g p refl)
+  const_fixed k f g = refl

@@ -19,36 +19,10 @@ fn at_ty<I: Interner>(cx: &I, ty: &Ty<I>) -> Visit
     requires { IsTrue (known ((I.meaning cx.now).ty ty.now)) }
     ensures { EntersFixed ((I.meaning cx.now).ty ty.now) result }
 {
-    let kind = cx.ty_kind(ty);
-    match &kind {
-        TyKind::Infer(_) | TyKind::Param(_) => Visit::Stop,
-        TyKind::Bool
-        | TyKind::Char
-        | TyKind::Int(_)
-        | TyKind::Uint(_)
-        | TyKind::Float(_)
-        | TyKind::Adt(..)
-        | TyKind::Foreign(_)
-        | TyKind::Str
-        | TyKind::Array(..)
-        | TyKind::Pat(..)
-        | TyKind::Slice(_)
-        | TyKind::RawPtr(..)
-        | TyKind::Ref(..)
-        | TyKind::FnDef(..)
-        | TyKind::FnPtr(..)
-        | TyKind::UnsafeBinder(_)
-        | TyKind::Dynamic(..)
-        | TyKind::Closure(..)
-        | TyKind::CoroutineClosure(..)
-        | TyKind::Coroutine(..)
-        | TyKind::CoroutineWitness(..)
-        | TyKind::Never
-        | TyKind::Tuple(_)
-        | TyKind::Alias(_)
-        | TyKind::Bound(..)
-        | TyKind::Placeholder(_)
-        | TyKind::Error(_) => Visit::Enter,
+    match cx.ty_kind(ty) {
+        TyKind::Infer(_) => Visit::Stop,
+        TyKind::Param(_) => Visit::Stop,
+        _ => Visit::Enter,
     }
 }
 
@@ -57,13 +31,9 @@ fn at_region<I: Interner>(cx: &I, region: &Region<I>) -> Visit
     requires { IsTrue (known ((I.meaning cx.now).region region.now)) }
     ensures { EntersFixed ((I.meaning cx.now).region region.now) result }
 {
-    let kind = cx.region_kind(region);
-    match &kind {
+    match cx.region_kind(region) {
         RegionKind::ReVar(_) => Visit::Stop,
-        RegionKind::ReStatic
-        | RegionKind::ReEarlyParam(_)
-        | RegionKind::ReBound(..)
-        | RegionKind::RePlaceholder(_) => Visit::Enter,
+        _ => Visit::Enter,
     }
 }
 
@@ -72,15 +42,10 @@ fn at_const<I: Interner>(cx: &I, constant: &Const<I>) -> Visit
     requires { IsTrue (known ((I.meaning cx.now).const_ constant.now)) }
     ensures { EntersFixed ((I.meaning cx.now).const_ constant.now) result }
 {
-    let kind = cx.const_kind(constant);
-    match &kind {
-        ConstKind::Infer(_) | ConstKind::Param(_) => Visit::Stop,
-        ConstKind::Bound(..)
-        | ConstKind::Placeholder(_)
-        | ConstKind::Unevaluated(_)
-        | ConstKind::Value(..)
-        | ConstKind::Error(_)
-        | ConstKind::Expr(..) => Visit::Enter,
+    match cx.const_kind(constant) {
+        ConstKind::Infer(_) => Visit::Stop,
+        ConstKind::Param(_) => Visit::Stop,
+        _ => Visit::Enter,
     }
 }
 

@@ -10,7 +10,6 @@ use relation_regions::{RecordedRegions, RegionOutlivesPredicate, Solved, is_fact
 use relation_semantics::infer_ctxt::InferCtxtLike;
 use relation_terms::predicate::OutlivesPredicate;
 use relation_terms::terms::{GenericArgKind, Interner, Keys};
-use std::alloc::AllocFailed;
 use term_enums::OutOfMemory;
 
 /// A term outlives a region.
@@ -29,14 +28,6 @@ impl From<OutOfMemory> for NotSolved {
     ghost from_gives = { λ _ made. made ≡ NotSolved.Memory };
 
     fn from(_: OutOfMemory) -> NotSolved {
-        NotSolved::Memory
-    }
-}
-
-impl<T: Drop> From<AllocFailed<T>> for NotSolved {
-    ghost from_gives = { λ _ made. made ≡ NotSolved.Memory };
-
-    fn from(_: AllocFailed<T>) -> NotSolved {
         NotSolved::Memory
     }
 }
@@ -74,7 +65,9 @@ fn facts_of<C: InferCtxtLike>(
         let Some(fact) = fact_of(ctx, one) else {
             return Err(NotSolved::NoFact);
         };
-        facts.push(fact)?;
+        let Ok(()) = facts.push(fact) else {
+            return Err(NotSolved::Memory);
+        };
     }
     Ok(facts)
 }

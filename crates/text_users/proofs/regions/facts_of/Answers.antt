@@ -15,8 +15,8 @@ loop-one-preserved g c =
     let m = g.C.InferCtxtLike.state c.args.ctx.now in
     record {
       are_facts = all_more (IsFactIn m) c.loop-one.facts.items c.push.new.self.items c.in-Some.fact
-          c.loop-one.invariant.are_facts c.in-Some.ensures.is_fact c.in_ok-push.ensures.items;
+          c.loop-one.invariant.are_facts c.in-Some.ensures.is_fact c.in-Ok.ensures.items;
       stated = facts_more c.args.stated.now c.loop-one.one-index c.one-item.result c.loop-one.facts.items
           c.push.new.self.items c.in-Some.fact c.loop-one-test.true c.one-item.is c.loop-one.invariant.stated
-          c.in-Some.ensures.stated c.in_ok-push.ensures.items;
+          c.in-Some.ensures.stated c.in-Ok.ensures.items;
     }
