@@ -23,7 +23,7 @@ use Rattle.relation_regions.specs.Reading.{AreNumbered, IsProblem}
 use Rattle.relation_regions.specs.Solutions.{AreLeast, IsUnmetBy}
 use Rattle.relation_regions.specs.Solving.{IsFactIn, region_pair, region_pairs}
 use Rattle.relation_regions.proofs.InWorlds.{SpeaksOfGiven}
-use Rattle.relation_regions.proofs.Numbered.{region_known}
+use Rattle.relation_regions.proofs.RegionNumbers.{region_known}
 use Rattle.relation_regions.proofs.Numbers.{standings_each}
 
 -- The region 'static is every context's.

@@ -17,7 +17,7 @@ pub mod NumbersFound
 pub mod FreeRegions
 pub mod Generated
 pub mod InWorlds
-pub mod Numbered
+pub mod RegionNumbers
 pub mod Numbers
 pub mod ReadPairs
 pub mod Sorts

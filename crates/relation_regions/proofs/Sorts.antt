@@ -6,7 +6,7 @@ use Rattle.relation_terms.specs.Interning.{Sorted}
 use Rattle.relation_terms.specs.declared.terms.keys.TyKey.{TyKey}
 use Rattle.relation_terms.specs.declared.terms.keys.ConstKey.{ConstKey}
 use Rattle.relation_semantics.specs.Stores.{Store, IsRegionIn}
-use Rattle.relation_regions.proofs.Numbered.{region_known}
+use Rattle.relation_regions.proofs.RegionNumbers.{region_known}
 
 type_sorts : (s : Sort) → Admits region_sort s → Admits type_sort s → ⊥
 type_sorts region_sort a b = b

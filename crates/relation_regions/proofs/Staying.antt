@@ -12,7 +12,7 @@ use Rattle.relation_semantics.specs.Steps.{IsLater}
 use Rattle.relation_semantics.specs.Stores.{Store, IsRegionIn}
 use Rattle.relation_semantics.proofs.Standing.{later_term}
 use Rattle.relation_regions.specs.Solving.{IsFactIn, region_pair, region_pairs}
-use Rattle.relation_regions.proofs.Numbered.{region_known}
+use Rattle.relation_regions.proofs.RegionNumbers.{region_known}
 
 later_region : (before after : Store) (t : Tree) → IsLater before after → IsRegionIn before t → IsRegionIn after t
 later_region before after t later h = (h.0, later_term before after later.grows later.universe_stands t h.1)

@@ -12,7 +12,7 @@ use Rattle.relation_regions.specs.Worlds.{IsOf, IsMentioned, is_static, by_const
 use Rattle.relation_regions.specs.Solving.{IsFactIn, IfValued, IfUnmet, region_pair, region_pairs}
 use Rattle.relation_regions.specs.declared.solving.Solved.{Solved}
 use Rattle.relation_regions.specs.declared.solving.Solved.TheVariants.{Met, Unmet}
-use Rattle.relation_regions.proofs.Numbered.{region_known}
+use Rattle.relation_regions.proofs.RegionNumbers.{region_known}
 use Rattle.text_users.specs.Solved.{KnowsSolved}
 
 -- A region of a constraint, or of a fact.

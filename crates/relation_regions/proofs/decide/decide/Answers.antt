@@ -31,6 +31,18 @@ pub causes_of-requires-clause-wide : goal.causes_of-requires-clause-wide
 causes_of-requires-clause-wide c = same_widened c.args.graph.now c.args.copy c.as_slice-why.result.now
     (length c.as_slice-why.result.now) c.widen.new.graph c.requires.same c.in_ok-widen.ensures
 
+-- A given node reaches the target, though it isn't known.
+pub returns-in-Some : goal.returns-in-Some
+returns-in-Some c =
+    let lt : c.loop-target.target < length c.args.standings.now = omega arith in
+    record {
+      longer_given = c.in-Some.ensures.given;
+      shorter_given = (lt, sym c.is_given.ensures ∙ c.if-is_given.true);
+      asked_for = c.in_ok-by-in-Some.ensures.asked_for;
+      forced = c.in_ok-by-in-Some.ensures.forced;
+      unknown = λ r. c.in-Some.ensures.unknown (c.in_ok-stated.ensures.finds_all c.in-Some.longer r);
+    }
+
 pub returns : goal.returns
 returns c = all_decided c.args.known.now c.args.graph.now c.widen.new.graph c.args.asked c.args.standings.now
     c.in_ok-reasons.reasons.items c.as_slice-why.result.now c.loop-target.target c.loop-target.values.items

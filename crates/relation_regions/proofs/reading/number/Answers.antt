@@ -3,7 +3,7 @@ use Rattle.std.proofs.Common.{sym, subst, Bool}
 use Rattle.relation_terms.specs.declared.terms.keys.RegionKey.{RegionKey}
 use Rattle.relation_terms.specs.Interning.{AreEqualAsTrees}
 use Rattle.std.proofs.lemmas.Result.{on_ok_weaker}
-use Rattle.relation_regions.proofs.Numbered.{numbered_more, more_numbered, number_answer}
+use Rattle.relation_regions.proofs.RegionNumbers.{numbered_more, more_numbered, number_answer}
 use Rattle.relation_regions.proofs.reading.number.Goals as goal
 
 pub returns-clause-numbered : goal.returns-clause-numbered

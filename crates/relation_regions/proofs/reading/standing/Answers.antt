@@ -3,7 +3,7 @@ use Rattle.std.proofs.Common.{◌≡◌, sym, ◌∙◌, ap, subst, IsTrue}
 use Rattle.relation_terms.specs.Heads.{region_var, variable}
 use Rattle.relation_terms.specs.Trees.{known, leaf}
 use Rattle.relation_regions.proofs.Forms.{variable_made}
-use Rattle.relation_regions.proofs.Numbered.{region_known}
+use Rattle.relation_regions.proofs.RegionNumbers.{region_known}
 use Rattle.relation_regions.proofs.Universes.{variable_standing, some_universe}
 use Rattle.relation_regions.proofs.reading.standing.Goals as goal
 
