@@ -5,18 +5,19 @@ ghost use Rattle.term_enums.specs.declared.Variance.TheVariants.{Covariant};
 ghost use Rattle.relation_terms.specs.Trees.{known};
 ghost use Rattle.relation_terms.specs.Meaning.{Extends};
 ghost use Rattle.relation_semantics.specs.Contexts.{KnowsEnv, KnowsTy};
-ghost use Rattle.context_regions.specs.Solving.{IsFactIn};
+ghost use Rattle.relation_regions.specs.Solving.{IsFactIn};
 ghost use Rattle.may_relate.specs.Fitting.{MayBeRelated};
-ghost use Rattle.relation_subtyping.specs.Answers.{Decides};
+ghost use Rattle.relation_regions.specs.Answers.{Decides};
 
 use crate::all::make_region;
-use context_regions::{RecordedRegions, RegionOutlivesPredicate, is_fact};
 use may_relate::{HasVariables, may_relate};
 use reference_interner::{RefInterner, SymbolId};
 use relation_folds::error::{RelateFault, RelateResult};
 use relation_reference::context::RefCtxt;
+use relation_regions::{
+    RecordedRegions, RegionOutlivesPredicate, Subtyping, SubtypingOf, decide_subtype, is_fact,
+};
 use relation_semantics::infer_ctxt::TypingMode;
-use relation_subtyping::{Subtyping, SubtypingOf, decide_subtype};
 use relation_terms::predicate::OutlivesPredicate;
 use relation_terms::terms::{
     Interner, Keys, Mutability, OutOfMemory, ParamEnv, Ty, TyKind, UintTy, Variance,

@@ -1,9 +1,12 @@
-//! Contexts whose record can be kept, and put back.
+//! Contexts whose record can be kept, and put back, and contexts that show what they have recorded of regions.
 #![tactic(auto)]
 
 ghost use Rattle.std.specs.Prelude.{◌≡◌, IfOk};
 ghost use Rattle.kept_records.specs.Records.{IsRecordOf, StandsOn};
 
+mod regions;
+
+pub use regions::RecordedRegions;
 use relation_semantics::infer_ctxt::InferCtxtLike;
 use relation_terms::terms::OutOfMemory;
 

@@ -1,10 +1,12 @@
 -- Edges added, one after another.
 use borrow.Author.Count.{below_more}
-use Rattle.std.proofs.Common.{◌≡◌, ℕ, ◌<◌, ◌≤◌, ◌+◌, List, [], ◌∷◌, ◌++◌, length, get_or, ◌∙◌, ap, subst, arith}
+use Rattle.std.proofs.Common.{◌≡◌, ℕ, ◌<◌, ◌≤◌, ◌+◌, ◌-◌, List, [], ◌∷◌, ◌++◌, length, get_or, ◌∙◌, ap, refl, sym, subst, arith}
+use Rattle.std.proofs.Common.{inl, inr}
+use Rattle.std.proofs.lemmas.Bool.{cases_lt}
 use Rattle.std.proofs.lemmas.List.{get_or_append_left, get_or_push}
 use Rattle.relation_regions.specs.declared.graph.Graph.{Graph}
 use Rattle.relation_regions.specs.declared.building.Pairs.{Pairs}
-use Rattle.relation_regions.specs.Graphs.{IsGraph}
+use Rattle.relation_regions.specs.Graphs.{IsGraph, HasSameEdges}
 use Rattle.relation_regions.specs.Building.{Extends, HasPairs, HasStatic, AddsPairs, AddsStatic, IsBuilt}
 use Rattle.relation_regions.proofs.Columns.{length_more}
 
@@ -14,6 +16,28 @@ column_kept old new x i is lt = ap (λ l. get_or l i 0) is ∙ get_or_append_lef
 
 column_last : (old new : List ℕ) (x i : ℕ) → new ≡ old ++ x ∷ [] → length old ≡ i → get_or new i 0 ≡ x
 column_last old new x i is e = ap (λ l. get_or l i 0) is ∙ get_or_push old x 0 i e
+
+-- None was added yet.
+extends_itself : (g : Graph) → IsGraph g → Extends g 0 g
+extends_itself g graph = record {
+  graph = graph;
+  nodes = refl;
+  count = omega arith;
+  same_from = λ i lt. refl;
+  same_to = λ i lt. refl;
+}
+
+pub no_pairs : (g : Graph) (p : Pairs) → IsGraph g → AddsPairs g p 0 g
+no_pairs g p graph = record {
+  extends = extends_itself g graph;
+  has = record { longer = λ k lt. absurd (omega (arith, lt)); shorter = λ k lt. absurd (omega (arith, lt)) };
+}
+
+pub no_static : (g : Graph) → IsGraph g → AddsStatic g 0 g
+no_static g graph = record {
+  extends = extends_itself g graph;
+  has = record { from_static = λ k lt. absurd (omega (arith, lt)); to_each = λ k lt. absurd (omega (arith, lt)) };
+}
 
 module _ (g h k : Graph) (n a b : ℕ) (e : Extends g n h) (graph : IsGraph k)
     (nodes : length k.latest.items ≡ length h.latest.items) (from_is : k.from.items ≡ h.from.items ++ a ∷ [])
@@ -93,3 +117,53 @@ built_of nodes asked known g0 g1 g2 g3 empty nodes_are a b s =
       has_known = pairs_kept n known m (length g2.latest.items) g2 g3 has2 s.extends (omega (arith, len2));
       has_static = subst (λ u. HasStatic (n + m) u g3) size has3;
     }
+
+-- Two graphs that are built of the same pairs.
+module _ (nodes : ℕ) (asked known : Pairs) (g h : Graph) (built : IsBuilt nodes asked known g)
+    (again : IsBuilt nodes asked known h) where
+  abbrev A : ℕ
+  A = length asked.shorter.items
+
+  abbrev F : ℕ
+  F = length known.shorter.items
+
+  -- An edge at a place that is counted from another one.
+  counted_on : (xs ys : List ℕ) (first k i z : ℕ) → first + k ≡ i → get_or xs (first + k) 0 ≡ z →
+      get_or ys (first + k) 0 ≡ z → get_or ys i 0 ≡ get_or xs i 0
+  counted_on xs ys first k i z e p q =
+      ap (λ j. get_or ys j 0) (sym e) ∙ (q ∙ (sym p ∙ ap (λ j. get_or xs j 0) e))
+
+  same_edges : (xs ys : List ℕ) (a f s : ℕ → ℕ) →
+      ((k : ℕ) → k < A → get_or xs (0 + k) 0 ≡ a k) → ((k : ℕ) → k < A → get_or ys (0 + k) 0 ≡ a k) →
+      ((k : ℕ) → k < F → get_or xs (A + k) 0 ≡ f k) → ((k : ℕ) → k < F → get_or ys (A + k) 0 ≡ f k) →
+      ((k : ℕ) → k < nodes → get_or xs (A + F + k) 0 ≡ s k) → ((k : ℕ) → k < nodes → get_or ys (A + F + k) 0 ≡ s k) →
+      (i : ℕ) → i < length g.to.items → get_or ys i 0 ≡ get_or xs i 0
+  same_edges xs ys a f s xa ya xf yf xs' ys' i lt = elim (cases_lt i A) [
+    | inl first ↦
+        let e : 0 + i ≡ i = omega arith in
+        counted_on xs ys 0 i i (a i) e (xa i first) (ya i first)
+    | inr le ↦ elim (cases_lt i (A + F)) [
+      | inl second ↦
+          let k = i - A in
+          let e : A + k ≡ i = omega (arith, le) in
+          let k_lt : k < F = omega (arith, le, second) in
+          counted_on xs ys A k i (f k) e (xf k k_lt) (yf k k_lt)
+      | inr far ↦
+          let k = i - (A + F) in
+          let e : A + F + k ≡ i = omega (arith, far) in
+          let k_lt : k < nodes = omega (arith, far, lt, built.count) in
+          counted_on xs ys (A + F) k i (s k) e (xs' k k_lt) (ys' k k_lt)
+    ]
+  ]
+
+  pub built_alike : HasSameEdges g h
+  built_alike = record {
+    nodes = again.nodes_are ∙ sym built.nodes_are;
+    count = again.count ∙ sym built.count;
+    same_from = same_edges g.from.items h.from.items (λ k. get_or asked.longer.items k 0)
+        (λ k. get_or known.longer.items k 0) (λ k. 0) built.has_asked.longer again.has_asked.longer
+        built.has_known.longer again.has_known.longer built.has_static.from_static again.has_static.from_static;
+    same_to = same_edges g.to.items h.to.items (λ k. get_or asked.shorter.items k 0)
+        (λ k. get_or known.shorter.items k 0) (λ k. k) built.has_asked.shorter again.has_asked.shorter
+        built.has_known.shorter again.has_known.shorter built.has_static.to_each again.has_static.to_each;
+  }

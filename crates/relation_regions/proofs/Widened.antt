@@ -9,7 +9,7 @@ use Rattle.std.proofs.lemmas.List.{get_or_default}
 use Rattle.relation_regions.specs.declared.graph.Graph.{Graph}
 use Rattle.relation_regions.specs.declared.search.Search.{Search}
 use Rattle.relation_regions.specs.declared.standing.Standing.{Standing}
-use Rattle.relation_regions.specs.Graphs.{IsGraph, Reaches}
+use Rattle.relation_regions.specs.Graphs.{IsGraph, Reaches, HasSameEdges}
 use Rattle.relation_regions.specs.Searches.{IsSearch, IsFound, FindsAll}
 use Rattle.relation_regions.specs.Standings.{IsBeyond}
 use Rattle.relation_regions.specs.Widening.{AreReasons, HaveReasons, IsNoted, IsWidened}
@@ -98,6 +98,33 @@ found_in g target found a h f =
       | None ↦ λ e s. absurd cc
       | Some k ↦ λ e s. let p = h.placed a k e in subst (λ u. u < length g.latest.items) p.1 (h.in_graph k p.0)
     ] refl f
+
+-- No node has an edge yet.
+pub widened_none : (g : Graph) (reasons : List (Option ℕ)) → IsGraph g → IsWidened g reasons 0 g
+widened_none g reasons graph = record {
+  graph = graph;
+  nodes = refl;
+  longer = omega arith;
+  same_from = λ i q. refl;
+  same_to = λ i q. refl;
+  to_static = λ i p q. absurd (omega (arith, p, q));
+  for_reasons = λ i p q. absurd (omega (arith, p, q));
+  each = λ a q s. absurd (omega (arith, q));
+}
+
+-- A graph of the same edges was widened.
+pub same_widened : (g h : Graph) (reasons : List (Option ℕ)) (bound : ℕ) (w : Graph) → HasSameEdges g h →
+    IsWidened h reasons bound w → IsWidened g reasons bound w
+same_widened g h reasons bound w same is = record {
+  graph = is.graph;
+  nodes = is.nodes ∙ same.nodes;
+  longer = omega (arith, is.longer, same.count);
+  same_from = λ i q. is.same_from i (omega (arith, q, same.count)) ∙ same.same_from i q;
+  same_to = λ i q. is.same_to i (omega (arith, q, same.count)) ∙ same.same_to i q;
+  to_static = λ i p q. is.to_static i (omega (arith, p, same.count)) q;
+  for_reasons = λ i p q. is.for_reasons i (omega (arith, p, same.count)) q;
+  each = λ a q s. let e = is.each a q s in (e.0, omega (arith, e.1, same.count), e.2, e.3);
+}
 
 -- One more edge.
 pub widened_more : (g : Graph) (reasons : List (Option ℕ)) (node : ℕ) (w w' : Graph) → IsWidened g reasons node w →

@@ -32,5 +32,6 @@ Reaches g a b = (path : List ℕ) × IsPath g.from.items g.to.items path a b
 -- Two graphs have as many nodes and the same edges.
 pub record HasSameEdges (g h : Graph) : Type 0 where
   pub nodes : length h.latest.items ≡ length g.latest.items
-  pub from : h.from.items ≡ g.from.items
-  pub to : h.to.items ≡ g.to.items
+  pub count : length h.to.items ≡ length g.to.items
+  pub same_from : (i : ℕ) → i < length g.to.items → get_or h.from.items i 0 ≡ get_or g.from.items i 0
+  pub same_to : (i : ℕ) → i < length g.to.items → get_or h.to.items i 0 ≡ get_or g.to.items i 0

@@ -5,3 +5,10 @@ pub mod Graphs
 pub mod Searches
 pub mod Standings
 pub mod Widening
+pub mod Numbering
+pub mod Reading
+pub mod Solutions
+pub mod Solving
+pub mod Worlds
+pub mod Entailment
+pub mod Answers

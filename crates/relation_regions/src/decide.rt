@@ -1,13 +1,13 @@
 //! Which given nodes have to outlive which, by edges that are asked for, and whether that was known.
 ghost use Rattle.std.specs.Prelude.{◌≡◌, ◌≤◌, length, IfOk, OnOk, MatchOption};
-ghost use Rattle.relation_regions.specs.Graphs.{IsGraph};
+ghost use Rattle.relation_regions.specs.Graphs.{IsGraph, HasSameEdges};
 ghost use Rattle.relation_regions.specs.Deciding.{IsUnknown, AllKnown, AreValuesTo, IsDecision};
 
 use crate::graph::Graph;
 use crate::search::{Search, reaching};
 use crate::standing::Standing;
 use crate::unsatisfiable::causes_of;
-use crate::widening::{reasons_of, widened};
+use crate::widening::{reasons_of, widen};
 use std::alloc::Global;
 use term_enums::OutOfMemory;
 
@@ -63,23 +63,28 @@ fn add_values(
 }
 
 /// Decides what is asked by a graph's first edges, `asked` in number, the others of which are those of what is known.
-/// It takes time linear in edges times given nodes.
+/// A copy of the graph is handed in, to be widened. It takes time linear in edges times given nodes.
 pub(crate) fn decide(
     alloc: Global,
     known: &Graph,
     graph: &Graph,
+    copy: Graph,
     asked: usize,
     standings: &[Standing],
 ) -> Result<Decision, OutOfMemory>
     requires known { IsGraph known.now }
     requires graph { IsGraph graph.now }
+    requires copy { IsGraph copy }
+    requires same { HasSameEdges graph.now copy }
     requires known_nodes { length known.now.latest.items ≡ length standings.now }
     requires nodes { length graph.now.latest.items ≡ length standings.now }
     requires asked { asked ≤ length graph.now.to.items }
     ensures { IfOk result (IsDecision known.now graph.now asked standings.now) }
 {
     let reasons = reasons_of(alloc, graph, standings)?;
-    let wide = widened(alloc, graph, reasons.as_slice())?;
+    let why = reasons.as_slice();
+    let mut wide = copy;
+    widen(&mut wide, why)?;
     let mut values = Vec::new(alloc);
     for target in 0..standings.len() {
         if standings[target].is_given() {
@@ -94,7 +99,7 @@ pub(crate) fn decide(
                         graph,
                         &wide,
                         standings,
-                        reasons.as_slice(),
+                        why,
                         asked,
                         longer,
                         target,

@@ -1,6 +1,6 @@
 //! A graph of numbered nodes, in columns of numbers.
 ghost use Rattle.std.specs.Prelude.{◌≡◌, ◌<◌, ◌++◌, [], ◌∷◌, length, OnOk, IfOk};
-ghost use Rattle.relation_regions.specs.Graphs.{IsGraph, HasSameEdges};
+ghost use Rattle.relation_regions.specs.Graphs.{IsGraph};
 
 use std::alloc::Global;
 use term_enums::OutOfMemory;
@@ -19,20 +19,6 @@ pub(crate) struct Graph {
 }
 
 impl Graph {
-    /// A graph of the same edges.
-    pub(crate) fn copied(&self, alloc: Global) -> Result<Graph, OutOfMemory>
-        requires { IsGraph self.now }
-        ensures graph { IfOk result IsGraph }
-        ensures same { IfOk result (HasSameEdges self.now) }
-    {
-        Ok(Graph {
-            from: self.from.as_slice().to_vec(alloc)?,
-            to: self.to.as_slice().to_vec(alloc)?,
-            earlier: self.earlier.as_slice().to_vec(alloc)?,
-            latest: self.latest.as_slice().to_vec(alloc)?,
-        })
-    }
-
     /// A graph of so many nodes without edges.
     pub(crate) fn new(alloc: Global, nodes: usize) -> Result<Graph, OutOfMemory>
         ensures graph { IfOk result IsGraph }

@@ -1,17 +1,22 @@
-//! Whether numbered regions can be as constraints ask: a solver of region constraints. What a number means, and which
-//! constraints make which pairs, is its caller's.
+//! Whether regions can be as constraints ask: those of a context, by what it has recorded, or numbered ones; and so
+//! whether one term is a subtype of another where nothing is known of regions but facts.
 #![tactic(auto)]
 
 mod building;
 mod decide;
+mod facts;
 mod graph;
+pub mod numbered;
+mod numbering;
+mod reading;
 mod search;
 mod solving;
 mod standing;
+mod subtyping;
 mod unsatisfiable;
 mod widening;
 
-pub use building::Pairs;
-pub use decide::Decision;
-pub use solving::solve;
-pub use standing::Standing;
+pub use facts::is_fact;
+pub use kept_records::RecordedRegions;
+pub use solving::{RegionOutlivesPredicate, Solved, solve};
+pub use subtyping::{Subtyping, SubtypingOf, decide_subtype};

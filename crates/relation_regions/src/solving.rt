@@ -1,41 +1,169 @@
-//! Solving: can numbered regions be as constraints ask?
-ghost use Rattle.std.specs.Prelude.{length, IfOk};
-ghost use Rattle.relation_regions.specs.Building.{ArePairs};
-ghost use Rattle.relation_regions.specs.Demands.{IfMet, IfUnmet};
+//! Solving: can the regions of a context be as it has recorded?
+ghost use Rattle.std.specs.Prelude.{◌≡◌, ◌<◌, All, length, get_or, map, IfOk};
+ghost use Rattle.relation_semantics.specs.ContextCalls.{Grows, KeepsMarks};
+ghost use Rattle.relation_regions.specs.Worlds.{static};
+ghost use Rattle.relation_regions.specs.Reading.{trees_of, IsProblem};
+ghost use Rattle.relation_regions.specs.Solving.{IsFactIn, IfMet, IfValued, IfUnmet, region_pairs};
 
-use crate::building::{Pairs, built};
-use crate::decide::{Decision, decide};
-use crate::standing::Standing;
+use crate::numbered::{self, Decision};
+use crate::numbering::Regions;
+use crate::reading::{NumberedPairs, number, read_constraints, read_facts};
+use kept_records::RecordedRegions;
+use relation_semantics::infer_ctxt::InferCtxtLike;
+use relation_terms::predicate::OutlivesPredicate;
+use relation_terms::terms::{Interner, Keys, Region, RegionKey, RegionKind};
 use std::alloc::Global;
+use std::hash::Hash;
 use term_enums::OutOfMemory;
 
-/// Whether numbered regions can be as it is asked, where of given ones, which are no variables, just what is known
-/// outlives. Of each number it is said what the region is; 0 is `'static`, which outlives all. What outlives a
-/// placeholder that its universe can't name outlives `'static`.
+/// A region outlives another one.
+pub type RegionOutlivesPredicate<X> = OutlivesPredicate<X, RegionKey<X>>;
+
+/// Whether regions can be as it was recorded, where of given regions nothing holds but what is known.
+#[derive(Drop)]
+pub enum Solved<X: Copy> {
+    /// They can. Of each variable the given regions that it has to outlive.
+    Met(Vec<OutlivesPredicate<X, RegionKey<X>>>),
+    /// They can't: the constraints with these numbers make a given region outlive another one, though that isn't known.
+    Unmet {
+        longer: RegionKey<X>,
+        shorter: RegionKey<X>,
+        by: Vec<usize>,
+    },
+}
+
+/// Constraints and facts, as pairs of numbered regions.
+#[derive(Drop)]
+struct Problem<X: Eq + Hash> {
+    regions: Regions<X>,
+    asked: NumberedPairs,
+    known: NumberedPairs,
+}
+
+// The constraints of a context, and facts. The region 'static has the number 0.
+fn read<C: RecordedRegions>(
+    ctx: &C,
+    re_static: Region<C::Interner>,
+    facts: &[RegionOutlivesPredicate<<C::Interner as Keys>::Key>],
+) -> Result<Problem<<C::Interner as Keys>::Key>, OutOfMemory>
+    requires lawful { (C.state ctx.now).lawful }
+    requires is_static { ((C.state ctx.now).meaning).region re_static ≡ static }
+    requires facts_in { All (IsFactIn (C.state ctx.now)) facts.now }
+    ensures { let c = C.state ctx.now in IfOk result (λ p. IsProblem (region_pairs c.meaning facts.now) c.store
+        (trees_of c p.regions.table) p.regions.standings.items p.asked.pairs p.asked.asked_by.items p.known.pairs) }
+{
+    let alloc = ctx.cx().alloc();
+    let mut regions = Regions::new(alloc);
+    number(ctx, &mut regions, re_static)?;
+    let mut asked = NumberedPairs::new(alloc);
+    read_constraints(ctx, &mut regions, &mut asked)?;
+    let mut known = NumberedPairs::new(alloc);
+    read_facts(ctx, &mut regions, &mut known, facts)?;
+    Ok(Problem {
+        regions,
+        asked,
+        known,
+    })
+}
+
+// What asks for the pairs at these places.
+fn asked_by(
+    alloc: Global,
+    pairs: &NumberedPairs,
+    places: &[usize],
+) -> Result<Vec<usize>, OutOfMemory>
+    requires { All (λ k. k < length pairs.now.asked_by.items) places.now }
+    ensures { IfOk result (λ by. by.items ≡ map (λ k. get_or pairs.now.asked_by.items k 0) places.now) }
+{
+    let mut by = Vec::new(alloc);
+    for place in places {
+        by.push(pairs.asked_by[*place])?;
+    }
+    Ok(by)
+}
+
+// Whether the regions of a context can be as it has recorded. The region 'static is handed in.
+fn solve_given<C: RecordedRegions>(
+    ctx: &C,
+    re_static: Region<C::Interner>,
+    facts: &[RegionOutlivesPredicate<<C::Interner as Keys>::Key>],
+) -> Result<Solved<<C::Interner as Keys>::Key>, OutOfMemory>
+    requires lawful { (C.state ctx.now).lawful }
+    requires is_static { ((C.state ctx.now).meaning).region re_static ≡ static }
+    requires facts_in { All (IsFactIn (C.state ctx.now)) facts.now }
+    ensures met { IfOk result (IfMet (C.state ctx.now) facts.now) }
+    ensures least { IfOk result (IfValued (C.state ctx.now) facts.now) }
+    ensures unmet { IfOk result (IfUnmet (C.state ctx.now) facts.now) }
+{
+    let alloc = ctx.cx().alloc();
+    let problem = read(ctx, re_static, facts)?;
+    let standings = problem.regions.standings.as_slice();
+    match numbered::solve(alloc, standings, &problem.asked.pairs, &problem.known.pairs)? {
+        Decision::Met(values) => {
+            // So that those of one variable stand together.
+            let mut values = values;
+            values.sort_unstable();
+            let values = problem.regions.regions_of(alloc, values.as_slice())?;
+            Ok(Solved::Met(values))
+        }
+        Decision::Unmet {
+            longer,
+            shorter,
+            by,
+        } => {
+            let by = asked_by(alloc, &problem.asked, by.as_slice())?;
+            let longer = problem.regions.region(longer);
+            let shorter = problem.regions.region(shorter);
+            Ok(Solved::Unmet {
+                longer,
+                shorter,
+                by,
+            })
+        }
+    }
+}
+
+// The region 'static. Nothing is recorded.
+fn make_static<C: InferCtxtLike>(ctx: &mut C) -> Result<Region<C::Interner>, OutOfMemory>
+    requires { (C.state ctx.old).lawful }
+    ensures grows { Grows (C.state ctx.old) (C.state ctx.new) }
+    ensures same_record { (C.state ctx.new).store ≡ (C.state ctx.old).store }
+    ensures marks { KeepsMarks (C.state ctx.old) (C.state ctx.new) }
+    ensures is_static { IfOk result (λ r. ((C.state ctx.new).meaning).region r ≡ static) }
+{
+    ctx.interner_grows();
+    ctx.cx_mut().mk_region(RegionKind::ReStatic)
+}
+
+/// Whether the regions of a context can be as it has recorded, where of given regions, which are no variables, nothing
+/// holds but what follows of the facts. `'static` outlives all, and counts as given. A variable that outlives what its
+/// universe can't name outlives `'static`.
 ///
-/// After `Met` nothing that is asked makes a given region outlive another one that it isn't known to. The values are,
-/// of each variable, the given regions that it has to outlive, and no others.
+/// After `Met` there is a world in which all holds that was recorded, and of given regions nothing but what follows of
+/// the facts. The values are, of each variable, the given regions that it outlives in every such world, and no others.
 ///
-/// After `Unmet` they can't: the pairs that are named make the one given region outlive the other, though that isn't
-/// known.
+/// After `Unmet` there is none: the constraints that are named, by their places in `region_constraints`, make the one
+/// given region outlive the other in every world in which the facts hold, though it doesn't follow of the facts.
 ///
-/// It takes time linear in pairs times given regions.
+/// It takes time linear in constraints and facts times given regions. Nothing is recorded, and only the key of
+/// `'static` is made. Upstream a body's regions are inferred, and a type's relations checked, by solvers of the
+/// compiler's, outside of this layer.
 ///
 /// # Errors
-/// `OutOfMemory` where a growth was refused.
-pub fn solve(
-    alloc: Global,
-    standings: &[Standing],
-    asked: &Pairs,
-    known: &Pairs,
-) -> Result<Decision, OutOfMemory>
-    requires asked { ArePairs (length standings.now) asked.now }
-    requires known { ArePairs (length standings.now) known.now }
-    ensures met { IfOk result (IfMet standings.now asked.now known.now) }
-    ensures unmet { IfOk result (IfUnmet standings.now asked.now known.now) }
+/// `OutOfMemory` where a growth was refused, and where there are more than 2^32 regions.
+pub fn solve<C: RecordedRegions>(
+    ctx: &mut C,
+    facts: &[RegionOutlivesPredicate<<C::Interner as Keys>::Key>],
+) -> Result<Solved<<C::Interner as Keys>::Key>, OutOfMemory>
+    requires lawful { (C.state ctx.old).lawful }
+    requires facts_in { All (IsFactIn (C.state ctx.old)) facts.now }
+    ensures grows { Grows (C.state ctx.old) (C.state ctx.new) }
+    ensures same_record { (C.state ctx.new).store ≡ (C.state ctx.old).store }
+    ensures marks { KeepsMarks (C.state ctx.old) (C.state ctx.new) }
+    ensures met { IfOk result (IfMet (C.state ctx.new) facts.now) }
+    ensures least { IfOk result (IfValued (C.state ctx.new) facts.now) }
+    ensures unmet { IfOk result (IfUnmet (C.state ctx.new) facts.now) }
 {
-    let none = Pairs::new(alloc);
-    let alone = built(alloc, standings.len(), &none, known)?;
-    let graph = built(alloc, standings.len(), asked, known)?;
-    decide(alloc, &alone, &graph, asked.shorter.len(), standings)
+    let re_static = make_static(ctx)?;
+    solve_given(ctx, re_static, facts)
 }

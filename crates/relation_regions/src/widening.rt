@@ -1,5 +1,5 @@
 //! Variables that have to outlive what they can't name, and so 'static.
-ghost use Rattle.std.specs.Prelude.{◌≡◌, ◌+◌, ◌<◌, length, IfOk};
+ghost use Rattle.std.specs.Prelude.{◌≡◌, ◌+◌, ◌<◌, length, IfOk, OnOk};
 ghost use Rattle.relation_regions.specs.Graphs.{IsGraph};
 ghost use Rattle.relation_regions.specs.Searches.{IsSearch, FindsAll};
 ghost use Rattle.relation_regions.specs.Widening.{HaveReasons, AreReasons, IsWidened};
@@ -55,21 +55,16 @@ pub(crate) fn reasons_of(
     Ok(reasons)
 }
 
-/// The graph with an edge to the node 0 from each that has a reason.
-pub(crate) fn widened(
-    alloc: Global,
-    graph: &Graph,
-    reasons: &[Option<usize>],
-) -> Result<Graph, OutOfMemory>
-    requires graph { IsGraph graph.now }
-    requires nodes { length graph.now.latest.items ≡ length reasons.now }
-    ensures { IfOk result (IsWidened graph.now reasons.now (length reasons.now)) }
+/// Adds an edge to the node 0 from each that has a reason. After `OutOfMemory` the graph is none any more.
+pub(crate) fn widen(graph: &mut Graph, reasons: &[Option<usize>]) -> Result<(), OutOfMemory>
+    requires graph { IsGraph graph.old }
+    requires nodes { length graph.old.latest.items ≡ length reasons.now }
+    ensures { OnOk result (IsWidened graph.old reasons.now (length reasons.now) graph.new) }
 {
-    let mut wide = graph.copied(alloc)?;
     for node in 0..reasons.len() {
         if reasons[node].is_some() {
-            wide.add(node, 0)?;
+            graph.add(node, 0)?;
         }
     }
-    Ok(wide)
+    Ok(())
 }

@@ -11,8 +11,8 @@ use Rattle.relation_terms.specs.declared.terms.keys.ArgsKey.{ArgsKey}
 use Rattle.relation_terms.proofs.Stays.{knows_ty, knows_as}
 use Rattle.relation_coherence.specs.Headers.{header_tree}
 use Rattle.relation_coherence.proofs.BothOpened.{header_stays}
-use Rattle.text_coherence.specs.Asked.{AreForKnown}
-use Rattle.text_coherence.specs.declared.methods.GenericMethod.{GenericMethod}
+use Rattle.text_users.specs.Asked.{AreForKnown}
+use Rattle.text_users.specs.declared.methods.GenericMethod.{GenericMethod}
 
 -- The arguments of a known trait reference under its binder are a known header.
 pub header_known : {Key Id Name : Type 0} (m : Meaning Key Id Name) (o : Option (List BoundKind)) (t : TraitRef Key Id) →

@@ -46,7 +46,7 @@ use Rattle.text_asking.specs.Meets.{AllKnown}
 use Rattle.text_needs.specs.Needs.{Allows, Reaches, largest, need_at}
 use Rattle.text_elaboration.specs.Pulls.{KnowsPulled}
 use Rattle.text_asking.specs.Outlives.{KnowsComponents}
-use Rattle.text_regions.specs.Solved.{KnowsSolved}
+use Rattle.text_users.specs.Solved.{KnowsSolved}
 
 -- What relating takes: a term in which each binder binds by its list, and nothing that one outside it binds stands.
 pub record IsRelatable (t : Tree) : Type 0 where

@@ -5,7 +5,7 @@ ghost use Rattle.relation_terms.specs.Meaning.{Extends};
 ghost use Rattle.relation_coherence.specs.Answers.{KnowsOverlap};
 ghost use Rattle.relation_coherence.specs.Headers.{header_tree};
 ghost use Rattle.variable_tables.specs.Tables.{IsLawful};
-ghost use Rattle.text_coherence.specs.Asked.{AreForKnown};
+ghost use Rattle.text_users.specs.Asked.{AreForKnown};
 ghost use Rattle.text_asking.specs.Asking.{AllReady};
 ghost use Rattle.text_asking.specs.Impls.{KnowsImpls};
 
@@ -20,11 +20,11 @@ use relation_terms::predicate::TraitRef;
 use relation_terms::terms::{ArgsKey, Binder, Interner, ParamEnvKey, TraitId};
 use std::fmt::{self, Write};
 use text_clauses::printing::write_trait_ref;
-use text_coherence::methods::{GenericMethod, find_methods};
-use text_coherence::overlapping::{OverlapResult, ask_overlap};
 use text_reading::naming::{Method, Parts};
 use text_terms::building::variables_at;
 use text_terms::printing::{TextsOf, name_text};
+use text_users::methods::{GenericMethod, find_methods};
+use text_users::overlapping::{OverlapResult, ask_overlap};
 
 // The headers of two impls of a trait, and the environment in which it is asked whether they overlap.
 #[derive(Clone, Copy)]

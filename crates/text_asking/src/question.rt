@@ -21,21 +21,21 @@ use crate::roots::{ask_binding, ask_one};
 use crate::sized_keys::SizedKeys;
 use crate::visiting::{Met, visit};
 use crate::walking::numbers_at;
-use context_regions::Solved;
 use relation_coherence::overlap::Overlap;
 use relation_folds::error::RelateFault;
 use relation_folds::visit::{has_escaping_bound_vars, has_non_region_infer, is_known_rigid};
 use relation_reference::context::RefCtxt;
+use relation_regions::Solved;
 use relation_terms::predicate::OutlivesPredicate;
 use relation_terms::terms::{GenericArg, GenericArgKind, Interner, Keys, LocalDefIds, TraitId, Ty};
 use relation_tools::outlives::Component;
 use std::alloc::Global;
-use text_coherence::overlapping::WhyNot;
 use text_elaboration::pulls::{Manner, Pulled};
 use text_needs::needs::{Needs, both, need_at};
 use text_reading::naming::{Clause, Method, Parts, Put, Question, QuestionKind, Variables};
 use text_reading::reading::Relation;
 use text_terms::building::{key_at, keys_at, ty_at};
+use text_users::overlapping::WhyNot;
 use type_relations::relate::solver_relating::RelateGoals;
 
 // The keys of a program's terms, and what each term needs.

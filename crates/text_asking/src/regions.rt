@@ -2,17 +2,17 @@
 ghost use Rattle.std.specs.Prelude.{IfOk};
 ghost use Rattle.relation_terms.specs.Meaning.{Extends};
 ghost use Rattle.variable_tables.specs.Tables.{IsLawful};
-ghost use Rattle.text_regions.specs.Solved.{KnowsSolved};
+ghost use Rattle.text_users.specs.Solved.{KnowsSolved};
 ghost use Rattle.text_asking.specs.Asking.{AllReady};
 
 use crate::context::NotAsked;
 use crate::outliving::assumptions_of;
 use crate::question::{Ready, Unasked, terms_of};
-use context_regions::Solved;
 use relation_reference::context::RefCtxt;
+use relation_regions::Solved;
 use relation_terms::terms::Interner;
 use text_reading::naming::Parts;
-use text_regions::{NotSolved, ask_solved};
+use text_users::{NotSolved, ask_solved};
 
 // Asks that, where each region of the first list outlives the one at its place in the second.
 pub(super) fn ask_regions<I: Interner>(

@@ -21,10 +21,10 @@ use relation_reference::context::RefCtxt;
 use relation_semantics::infer_ctxt::InferCtxtLike;
 use relation_terms::terms::{GenericArg, Interner};
 use std::fmt::{self, Write};
-use text_coherence::overlapping::write_why_not;
 use text_elaboration::pulls::write_pulls;
-use text_regions::write_solved;
 use text_terms::printing::{TextsOf, write_arg};
+use text_users::overlapping::write_why_not;
+use text_users::write_solved;
 use type_relations::relate::solver_relating::RelateGoals;
 
 // Writes how many instantiations are left, where it was said how many a context may make.

@@ -1,6 +1,6 @@
 //! The context shows what it has recorded of regions.
 use crate::context::RefCtxt;
-use recorded_regions::RecordedRegions;
+use kept_records::RecordedRegions;
 use relation_terms::predicate::RegionConstraint;
 use relation_terms::terms::Interner;
 

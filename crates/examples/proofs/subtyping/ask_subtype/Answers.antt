@@ -2,8 +2,8 @@
 use Rattle.std.proofs.Common.{[], ◌∷◌, ◌++◌, ◌∙◌, None, rules, ap, sym, subst, All, IsTrue}
 use Rattle.std.proofs.lemmas.List.Elements.{All-cons, All-nil}
 use Rattle.term_enums.specs.declared.Variance.TheVariants.{Covariant}
-use Rattle.context_regions.specs.Solving.{IsFactIn}
-use Rattle.relation_subtyping.specs.Answers.{Decides}
+use Rattle.relation_regions.specs.Solving.{IsFactIn}
+use Rattle.relation_regions.specs.Answers.{Decides}
 use Rattle.examples.proofs.subtyping.ask_subtype.Goals as goal
 
 pub decide_subtype-requires-clause-can : goal.decide_subtype-requires-clause-can

@@ -1,18 +1,9 @@
--- What is decided of the built graphs is so of the pairs.
-use Rattle.std.proofs.Common.{◌≡◌, ◌∙◌, ap, length, List, ℕ}
-use Rattle.relation_regions.proofs.Demanded.{met_answer, unmet_answer}
+-- The facts are facts of the context still.
+use Rattle.std.proofs.Common.{get_or}
+use Rattle.relation_regions.proofs.Answered.{fact_later}
 use Rattle.relation_regions.proofs.solving.solve.Goals as goal
 
-pub returns-clause-met : goal.returns-clause-met
-returns-clause-met c =
-    let empty : length c.new-none.result.shorter.items ≡ 0 = ap (λ (l : List ℕ). length l) c.new-none.ensures.shorter in
-    met_answer c.args.standings.now c.args.asked.now c.args.known.now c.new-none.result c.in_ok-graph.graph
-    c.in_ok-alone.alone empty c.in_ok-graph.ensures c.in_ok-alone.ensures c.decide.result c.len.result
-    (c.len.ensures ∙ c.args.asked.now.shorter.ok.0) c.decide.ensures
-
-pub returns-clause-unmet : goal.returns-clause-unmet
-returns-clause-unmet c =
-    let empty : length c.new-none.result.shorter.items ≡ 0 = ap (λ (l : List ℕ). length l) c.new-none.ensures.shorter in
-    unmet_answer c.args.standings.now c.args.asked.now c.args.known.now c.new-none.result c.in_ok-graph.graph
-    c.in_ok-alone.alone empty c.in_ok-graph.ensures c.in_ok-alone.ensures c.decide.result c.len.result
-    (c.len.ensures ∙ c.args.asked.now.shorter.ok.0) c.decide.ensures
+pub solve_given-requires-clause-facts_in : goal.solve_given-requires-clause-facts_in
+solve_given-requires-clause-facts_in g c i d lt = fact_later (g.C.InferCtxtLike.state c.args.ctx.now)
+    (g.C.InferCtxtLike.state c.make_static.new.ctx) (get_or c.args.facts.now i d) c.make_static.ensures.grows.extends
+    c.make_static.ensures.same_record (c.requires.facts_in i d lt)

@@ -1,5 +1,5 @@
 use Rattle.relation_terms.specs.Meaning.{Extends}
-use Rattle.text_coherence.specs.Asked.{AreForKnown}
+use Rattle.text_users.specs.Asked.{AreForKnown}
 use Rattle.text_asking.proofs.coherence.methods_of.Given as goal
 
 -- the methods so far are for known types

@@ -1,7 +1,0 @@
--- What is read at a number is its region.
-use Rattle.context_regions.proofs.Found.{region_is}
-use Rattle.context_regions.proofs.numbering.Regions.region.Goals as goal
-
-pub returns : goal.returns
-returns g c = region_is c.args.self.now.table c.args.number c.in_ok-place.place c.node.result.now c.requires
-    c.in_ok-place.ensures.number c.node.ensures

@@ -1,0 +1,185 @@
+//! Constraints and facts are read: their regions get numbers, and they become pairs of these.
+ghost use Rattle.std.specs.Prelude.{◌≡◌, ◌⊎◌, All, length, map, IfOk, OnOk};
+ghost use Rattle.relation_terms.specs.Trees.{Tree};
+ghost use Rattle.relation_semantics.specs.Stores.{ConstraintIn};
+ghost use Rattle.relation_semantics.specs.Constraints.{constraint_of};
+ghost use Rattle.relation_semantics.specs.Contexts.{HasRegion};
+ghost use Rattle.relation_regions.specs.Worlds.{IsOf};
+ghost use Rattle.relation_regions.specs.Reading.{standing_in, AddsPair, AddsAsked, AreNone, HaveRead, IsOfOne, stating};
+ghost use Rattle.relation_regions.specs.Reading.{trees_of, HasNumbered, HasNumber, NumbersMore};
+ghost use Rattle.relation_regions.specs.Solving.{IsFactIn, region_pairs};
+
+use crate::building::Pairs;
+use crate::numbering::Regions;
+use crate::solving::RegionOutlivesPredicate;
+use crate::standing::Standing;
+use kept_records::RecordedRegions;
+use relation_semantics::infer_ctxt::InferCtxtLike;
+use relation_terms::predicate::{OutlivesPredicate, RegionConstraint};
+use relation_terms::terms::{GenericArgKind, Interner, Keys, Region, RegionKind};
+use std::alloc::Global;
+use term_enums::OutOfMemory;
+
+/// Pairs of numbered regions, and of each the number of what asks for it.
+#[derive(Drop)]
+pub(crate) struct NumberedPairs {
+    pub(crate) pairs: Pairs,
+    pub(crate) asked_by: Vec<usize>,
+}
+
+impl NumberedPairs {
+    /// No pairs.
+    pub(crate) fn new(alloc: Global) -> NumberedPairs
+        ensures { AreNone result.pairs result.asked_by.items }
+    {
+        NumberedPairs {
+            pairs: Pairs::new(alloc),
+            asked_by: Vec::new(alloc),
+        }
+    }
+}
+
+// What a region of the context is.
+fn standing<C: InferCtxtLike>(ctx: &C, region: &Region<C::Interner>) -> Standing
+    requires lawful { (C.state ctx.now).lawful }
+    requires region_in { HasRegion (C.state ctx.now) region.now }
+    ensures { let c = C.state ctx.now in result ≡ standing_in c.store ((c.meaning).region region.now) }
+{
+    match ctx.cx().region_kind(region) {
+        RegionKind::ReVar(vid) => match ctx.universe_of_lt(vid) {
+            Some(universe) => Standing::Variable(universe.0),
+            None => Standing::Named,
+        },
+        RegionKind::RePlaceholder(placeholder) => Standing::Placeholder(placeholder.universe.0),
+        _ => Standing::Named,
+    }
+}
+
+/// The number of a region of the context.
+pub(crate) fn number<C: InferCtxtLike>(
+    ctx: &C,
+    regions: &mut Regions<<C::Interner as Keys>::Key>,
+    region: Region<C::Interner>,
+) -> Result<usize, OutOfMemory>
+    requires lawful { (C.state ctx.now).lawful }
+    requires region_in { HasRegion (C.state ctx.now) region }
+    requires numbered { HasNumbered (C.state ctx.now) regions.old.table regions.old.standings.items }
+    ensures numbered { OnOk result (HasNumbered (C.state ctx.now) regions.new.table regions.new.standings.items) }
+    ensures more { let c = C.state ctx.now in
+        OnOk result (NumbersMore c (λ t. t ≡ (c.meaning).region region) regions.old.table regions.new.table) }
+    ensures number { IfOk result (HasNumber (C.state ctx.now) regions.new.table region) }
+{
+    let standing = standing(ctx, &region);
+    regions.add(region, standing)
+}
+
+// A pair of two regions of the context is put behind the others.
+fn add_pair<C: InferCtxtLike>(
+    ctx: &C,
+    regions: &mut Regions<<C::Interner as Keys>::Key>,
+    pairs: &mut NumberedPairs,
+    longer: Region<C::Interner>,
+    shorter: Region<C::Interner>,
+    asked_by: usize,
+) -> Result<(), OutOfMemory>
+    requires lawful { (C.state ctx.now).lawful }
+    requires longer_in { HasRegion (C.state ctx.now) longer }
+    requires shorter_in { HasRegion (C.state ctx.now) shorter }
+    requires numbered { HasNumbered (C.state ctx.now) regions.old.table regions.old.standings.items }
+    ensures numbered { OnOk result (HasNumbered (C.state ctx.now) regions.new.table regions.new.standings.items) }
+    ensures more { let c = C.state ctx.now in
+        OnOk result (NumbersMore c (λ t. (t ≡ (c.meaning).region longer) ⊎ (t ≡ (c.meaning).region shorter))
+        regions.old.table regions.new.table) }
+    ensures adds { let c = C.state ctx.now in
+        OnOk result (AddsPair (trees_of c regions.new.table) ((c.meaning).region longer) ((c.meaning).region shorter)
+        asked_by pairs.old.pairs pairs.old.asked_by.items pairs.new.pairs pairs.new.asked_by.items) }
+{
+    let first = number(ctx, regions, longer)?;
+    let second = number(ctx, regions, shorter)?;
+    pairs.pairs.longer.push(first)?;
+    pairs.pairs.shorter.push(second)?;
+    pairs.asked_by.push(asked_by)?;
+    Ok(())
+}
+
+// The pairs that a constraint asks for.
+fn read_constraint<C: InferCtxtLike>(
+    ctx: &C,
+    regions: &mut Regions<<C::Interner as Keys>::Key>,
+    pairs: &mut NumberedPairs,
+    constraint: RegionConstraint<<C::Interner as Keys>::Key>,
+    index: usize,
+) -> Result<(), OutOfMemory>
+    requires lawful { (C.state ctx.now).lawful }
+    requires constraint_in { let c = C.state ctx.now in ConstraintIn c.store (constraint_of c.meaning constraint) }
+    requires numbered { HasNumbered (C.state ctx.now) regions.old.table regions.old.standings.items }
+    ensures numbered { OnOk result (HasNumbered (C.state ctx.now) regions.new.table regions.new.standings.items) }
+    ensures more { let c = C.state ctx.now in
+        OnOk result (NumbersMore c (IsOf (constraint_of c.meaning constraint)) regions.old.table regions.new.table) }
+    ensures adds { let c = C.state ctx.now in
+        OnOk result (AddsAsked (trees_of c regions.new.table) (constraint_of c.meaning constraint) index
+        pairs.old.pairs pairs.old.asked_by.items pairs.new.pairs pairs.new.asked_by.items) }
+{
+    match constraint {
+        RegionConstraint::Outlives(outlives) => {
+            let OutlivesPredicate(left, shorter) = outlives;
+            match left {
+                GenericArgKind::Lifetime(longer) => {
+                    add_pair(ctx, regions, pairs, longer, shorter, index)
+                }
+                GenericArgKind::Ty(_) => unreachable!(),
+                GenericArgKind::Const(_) => unreachable!(),
+            }
+        }
+        RegionConstraint::Eq(equal) => {
+            add_pair(ctx, regions, pairs, equal.0, equal.1, index)?;
+            add_pair(ctx, regions, pairs, equal.1, equal.0, index)
+        }
+    }
+}
+
+/// The pairs that the constraints of a context ask for.
+pub(crate) fn read_constraints<C: RecordedRegions>(
+    ctx: &C,
+    regions: &mut Regions<<C::Interner as Keys>::Key>,
+    pairs: &mut NumberedPairs,
+) -> Result<(), OutOfMemory>
+    requires lawful { (C.state ctx.now).lawful }
+    requires numbered { HasNumbered (C.state ctx.now) regions.old.table regions.old.standings.items }
+    requires none { AreNone pairs.old.pairs pairs.old.asked_by.items }
+    ensures numbered { OnOk result (HasNumbered (C.state ctx.now) regions.new.table regions.new.standings.items) }
+    ensures more { let c = C.state ctx.now in
+        OnOk result (NumbersMore c (IsOfOne (c.store).constraints) regions.old.table regions.new.table) }
+    ensures read { let c = C.state ctx.now in let qs = (c.store).constraints in
+        OnOk result (HaveRead qs (length qs) (trees_of c regions.new.table) pairs.new.pairs pairs.new.asked_by.items) }
+{
+    let constraints = ctx.region_constraints();
+    for index in 0..constraints.len() {
+        read_constraint(ctx, regions, pairs, constraints[index], index)?;
+    }
+    Ok(())
+}
+
+/// The pairs that facts state.
+pub(crate) fn read_facts<C: InferCtxtLike>(
+    ctx: &C,
+    regions: &mut Regions<<C::Interner as Keys>::Key>,
+    pairs: &mut NumberedPairs,
+    facts: &[RegionOutlivesPredicate<<C::Interner as Keys>::Key>],
+) -> Result<(), OutOfMemory>
+    requires lawful { (C.state ctx.now).lawful }
+    requires facts_in { All (IsFactIn (C.state ctx.now)) facts.now }
+    requires numbered { HasNumbered (C.state ctx.now) regions.old.table regions.old.standings.items }
+    requires none { AreNone pairs.old.pairs pairs.old.asked_by.items }
+    ensures numbered { OnOk result (HasNumbered (C.state ctx.now) regions.new.table regions.new.standings.items) }
+    ensures more { let c = C.state ctx.now in let qs = map stating (region_pairs c.meaning facts.now) in
+        OnOk result (NumbersMore c (IsOfOne qs) regions.old.table regions.new.table) }
+    ensures read { let c = C.state ctx.now in let qs = map stating (region_pairs c.meaning facts.now) in
+        OnOk result (HaveRead qs (length qs) (trees_of c regions.new.table) pairs.new.pairs pairs.new.asked_by.items) }
+{
+    for index in 0..facts.len() {
+        let fact = facts[index];
+        add_pair(ctx, regions, pairs, fact.0, fact.1, index)?;
+    }
+    Ok(())
+}

@@ -1,3 +1,0 @@
-pub mod FactLemmas
-pub mod SolvedLemmas
-pub mod RecordedLemmas

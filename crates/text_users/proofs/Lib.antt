@@ -1,0 +1,5 @@
+pub mod Fixing
+pub mod Finding
+pub mod FactLemmas
+pub mod SolvedLemmas
+pub mod RecordedLemmas

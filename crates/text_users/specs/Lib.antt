@@ -1,0 +1,5 @@
+pub mod Fixed
+pub mod Asked
+pub mod Found
+pub mod Facts
+pub mod Solved
