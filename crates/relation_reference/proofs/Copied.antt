@@ -1,30 +1,22 @@
 -- A copy of a context's tables records the same, and is lawful.
-use Rattle.std.proofs.Common.{◌≡◌, ℕ, ◌<◌, ◌≤◌, refl, sym, ◌∙◌, ap, ap₂, subst, length, get_or, map}
+use Rattle.std.proofs.Common.{◌≡◌, ℕ, ◌<◌, ◌≤◌, sym, ◌∙◌, ap, ap₂, subst, List, length, get_or, map}
 use Rattle.std.specs.Prelude.{IfOk, Result, Ok, Err}
 use Rattle.relation_terms.specs.Heads.{VarKind, type_var, int_var, float_var, const_var, region_var, variable}
 use Rattle.relation_terms.specs.Trees.{leaf, nil}
-use Rattle.relation_terms.specs.Meaning.{Meaning, Extends}
+use Rattle.relation_terms.specs.Meaning.{Meaning}
+use Rattle.relation_terms.specs.declared.terms.numbers.UniverseIndex.{UniverseIndex}
+use Rattle.relation_terms.specs.declared.predicate.regions.RegionConstraint.{RegionConstraint}
 use Rattle.relation_semantics.specs.Constraints.{constraint_of}
 use Rattle.relation_semantics.specs.Generalising.{NumbersNameNothing}
-use Rattle.relation_semantics.specs.Stores.{Store, IsSound}
+use Rattle.relation_semantics.specs.Stores.{IsSound}
 use Rattle.relation_reference.specs.declared.context.variables.RefCtxt.{RefCtxt}
 use Rattle.relation_reference.specs.RefCtxt.{context_in}
 use Rattle.variable_tables.specs.declared.inner.InferCtxtInner.{InferCtxtInner}
 use Rattle.variable_classes.specs.Roots.{root_in, IsRootTable}
-use Rattle.variable_tables.specs.Tables.{by_kind, store_of, keys_in, IsRooted, IsFilled, IsLawful, setup_in, context_of}
+use Rattle.variable_tables.specs.Tables.{by_kind, store_of, keys_in, IsRooted, IsFilled, IsLawful, context_of}
 use Rattle.variable_tables.specs.Variables.{entries_of, universes_of, trees_of}
-use Rattle.variable_tables.proofs.Grows.{store_grows, lawful_grows}
-use Rattle.kept_records.specs.Records.{SameRecord, IsRecordOf, StandsOn}
+use Rattle.kept_records.specs.Records.{SameRecord, IsRecordOf}
 use Rattle.relation_reference.specs.Copies.{IsCopy}
-
--- While the interner grows the tables record the same, and stay lawful.
-pub stands_on : {I Key Id Name Span : Type 0} (meaning : I → Meaning Key Id Name) (r : InferCtxtInner Key) →
-    StandsOn (context_in {Span = Span} meaning) (λ c y. record c { inner = y }) r
-stands_on meaning r = record {
-  meaning = λ c. refl;
-  same = λ c d e l. record { store = store_grows e r l; setup = refl; outliving = refl; marks = λ n. refl };
-  lawful = λ c d e l. lawful_grows e r l;
-}
 
 module _ {Key Id Name : Type 0} (m : Meaning Key Id Name) (x y : InferCtxtInner Key) (c : IsCopy x y) where
   -- Each table of the copy in turn.
@@ -83,7 +75,7 @@ module _ {Key Id Name : Type 0} (m : Meaning Key Id Name) (x y : InferCtxtInner 
     budget = y.budget;
   } ≡ store_of m x
   rest_same =
-      ap₂ (λ u q. record (store_of m x) {
+      ap₂ (λ (u : UniverseIndex) (q : List (RegionConstraint Key)). record (store_of m x) {
         universe = u.0;
         constraints = map (constraint_of m) q;
         tainted = y.tainted;

@@ -1,5 +1,9 @@
--- Copies of a context's tables.
-use Rattle.std.specs.Prelude.{◌≡◌}
+-- Copies of a context's tables, and that they stand while the interner grows.
+use Rattle.std.specs.Prelude.{◌≡◌, refl}
+use Rattle.relation_terms.specs.Meaning.{Meaning}
+use Rattle.relation_reference.specs.RefCtxt.{context_in}
+use Rattle.variable_tables.proofs.Grows.{store_grows, lawful_grows}
+use Rattle.kept_records.specs.Records.{StandsOn}
 use Rattle.variable_tables.specs.declared.inner.InferCtxtInner.{InferCtxtInner}
 
 -- The second tables have what the first have.
@@ -18,3 +22,12 @@ pub record IsCopy {Key : Type 0} (x y : InferCtxtInner Key) : Type 0 where
   pub mode : y.mode ≡ x.mode
   pub tainted : y.tainted ≡ x.tainted
   pub numbers : y.numbers.items ≡ x.numbers.items
+
+-- While the interner grows the tables record the same, and stay lawful.
+pub stands_on : {I Key Id Name Span : Type 0} (meaning : I → Meaning Key Id Name) (r : InferCtxtInner Key) →
+    StandsOn (context_in {Span = Span} meaning) (λ c y. record c { inner = y }) r
+stands_on meaning r = record {
+  meaning = λ c. refl;
+  same = λ c d e l. record { store = store_grows e r l; setup = refl; outliving = refl; marks = λ n. refl };
+  lawful = λ c d e l. lawful_grows e r l;
+}

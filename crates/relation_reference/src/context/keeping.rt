@@ -7,7 +7,7 @@ use relation_terms::terms::{Interner, OutOfMemory};
 impl<I: Interner> KeepsRecord for RefCtxt<I> {
     type Record = InferCtxtInner<I::Key>;
 
-    ghost use Rattle.relation_reference.proofs.Copied.{stands_on};
+    ghost use Rattle.relation_reference.specs.Copies.{stands_on};
 
     ghost with_record = { λ c r. record c { inner = r } };
 
