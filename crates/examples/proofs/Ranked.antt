@@ -101,12 +101,12 @@ module _ {Key Id Name : Type 0} (m n o p q : Meaning Key Id Name) (e : Extends m
   asks_are : q.clause asks ≡ ranked_clause (m.id d) (bound_param (m.name s))
   asks_are = asks_is ∙ ap₂ ranked_clause (g.id d ∙ (f.id d ∙ e.id d)) param_stays
 
-  listed : list_tree q.clause cs ≡ cons (ranked_clause (m.id d) (vec_over (m.id v) (bound_param (m.name s))))
+  both_listed : list_tree q.clause cs ≡ cons (ranked_clause (m.id d) (vec_over (m.id v) (bound_param (m.name s))))
       (cons (ranked_clause (m.id d) (bound_param (m.name s))) nil)
-  listed = ap (list_tree q.clause) two ∙ ap₂ (λ x y. cons x (cons y nil)) gives_are asks_are
+  both_listed = ap (list_tree q.clause) two ∙ ap₂ (λ x y. cons x (cons y nil)) gives_are asks_are
 
   pub parts_known : IsTrue (known (list_tree q.clause cs))
-  parts_known = subst (λ t. IsTrue (known t)) (sym listed) refl
+  parts_known = subst (λ t. IsTrue (known t)) (sym both_listed) refl
 
   name_stays : q.name s ≡ m.name s
   name_stays = h.name s ∙ (g.name s ∙ (f.name s ∙ e.name s))
@@ -114,7 +114,7 @@ module _ {Key Id Name : Type 0} (m n o p q : Meaning Key Id Name) (e : Extends m
   impl_is : (t : Tree) (bs : List (BoundVariableKind Name)) → bs ≡ TyBound s ∷ [] →
       t ≡ bind (bound_kinds q bs) (list_tree q.clause cs) → IsRule t (impl_for_vecs (m.id v) (m.id d) (m.name s))
   impl_is t bs one is = record {
-    clauses = is ∙ ap₂ bind (ap (bound_kinds q) one ∙ ap (λ i. bound_kind type_kind i ∷ []) name_stays) listed;
+    clauses = is ∙ ap₂ bind (ap (bound_kinds q) one ∙ ap (λ i. bound_kind type_kind i ∷ []) name_stays) both_listed;
     shadowed_by_none = refl;
   }
 

@@ -4,16 +4,16 @@ use Rattle.relation_terms.proofs.Stays.{extends_on, knows_ty}
 use Rattle.examples.proofs.Ranked.{parts_known, impl_result}
 use Rattle.examples.proofs.proving.make_impl.Goals as goal
 
-pub make_ranked-asks-requires : goal.make_ranked-asks-requires
-make_ranked-asks-requires g c =
+pub make_ranked-requires-2 : goal.make_ranked-requires-2
+make_ranked-requires-2 g c =
     knows_ty (extends_on c.in_ok-over.ensures.grown c.in_ok-gives.ensures.grown) c.in_ok-param.param
     c.in_ok-param.ensures.sure
 
 pub make_rule-requires : goal.make_rule-requires
 make_rule-requires g c =
     parts_known (g.I.Interner.meaning c.args.cx.now) (g.I.Interner.meaning c.mk_ty.new.self)
-    (g.I.Interner.meaning c.make_vec-over.new.cx) (g.I.Interner.meaning c.make_ranked-gives.new.cx)
-    (g.I.Interner.meaning c.make_ranked-asks.new.cx) c.in_ok-param.ensures.grown c.in_ok-over.ensures.grown
+    (g.I.Interner.meaning c.make_vec.new.cx) (g.I.Interner.meaning c.make_ranked.new.cx)
+    (g.I.Interner.meaning c.make_ranked-2.new.cx) c.in_ok-param.ensures.grown c.in_ok-over.ensures.grown
     c.in_ok-gives.ensures.grown c.in_ok-asks.ensures.grown c.args.vec c.args.ranked c.args.name c.in_ok-param.param
     c.in_ok-over.over c.in_ok-gives.gives c.in_ok-asks.asks c.in_ok-param.ensures.made c.in_ok-over.ensures.made
     c.in_ok-gives.ensures.made c.in_ok-asks.ensures.made c.in_ok-param.ensures.sure c.in_ok-gives.ensures.sure
@@ -22,8 +22,8 @@ make_rule-requires g c =
 pub returns-clause-is : goal.returns-clause-is
 returns-clause-is g c =
     impl_result (g.I.Interner.meaning c.args.cx.now) (g.I.Interner.meaning c.mk_ty.new.self)
-    (g.I.Interner.meaning c.make_vec-over.new.cx) (g.I.Interner.meaning c.make_ranked-gives.new.cx)
-    (g.I.Interner.meaning c.make_ranked-asks.new.cx) c.in_ok-param.ensures.grown c.in_ok-over.ensures.grown
+    (g.I.Interner.meaning c.make_vec.new.cx) (g.I.Interner.meaning c.make_ranked.new.cx)
+    (g.I.Interner.meaning c.make_ranked-2.new.cx) c.in_ok-param.ensures.grown c.in_ok-over.ensures.grown
     c.in_ok-gives.ensures.grown c.in_ok-asks.ensures.grown c.args.vec c.args.ranked c.args.name c.in_ok-param.param
     c.in_ok-over.over c.in_ok-gives.gives c.in_ok-asks.asks c.in_ok-param.ensures.made c.in_ok-over.ensures.made
     c.in_ok-gives.ensures.made c.in_ok-asks.ensures.made c.in_ok-param.ensures.sure c.in_ok-gives.ensures.sure
