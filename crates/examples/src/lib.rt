@@ -1,5 +1,5 @@
 //! The smallest of each that a user of these crates may copy: a visitor, a folder, an obligation, a table of methods, an
-//! overlap of impls, a question of subtyping. All is proved with the tests, and so once.
+//! overlap of impls, a question of subtyping, one to a solver. All is proved with the tests, and so once.
 #![tactic(auto)]
 
 #[cfg(test)]
@@ -12,6 +12,8 @@ mod methods;
 pub mod obligation;
 #[cfg(test)]
 mod overlapping;
+#[cfg(test)]
+mod proving;
 #[cfg(test)]
 mod subtyping;
 #[cfg(test)]

@@ -6,3 +6,4 @@ pub mod GoingOn
 pub mod Answering
 pub mod Searches
 pub mod Meaning
+pub mod Checked

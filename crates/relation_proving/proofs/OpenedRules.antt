@@ -53,7 +53,7 @@ list_same f (k ∷ ks) (t ∷ ts) e = ap₂ (λ a b. a ∷ b) (first_path e) (li
 
 -- What holds of such a tree holds of each of the list.
 module _ {K : Type 0} (f : K → Tree) where
-  each_known : (ks : List K) → IsTrue (known (list_tree f ks)) → All (λ k. IsTrue (known (f k))) ks
+  pub each_known : (ks : List K) → IsTrue (known (list_tree f ks)) → All (λ k. IsTrue (known (f k))) ks
   each_known [] h = All-nil (λ k. IsTrue (known (f k)))
   each_known (k ∷ ks) h = All-cons (λ k. IsTrue (known (f k))) k ks (and_parts (known (f k)) (known (list_tree f ks)) h).0
       (each_known ks (and_parts (known (f k)) (known (list_tree f ks)) h).1)

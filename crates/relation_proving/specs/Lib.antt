@@ -5,3 +5,4 @@ pub mod Candidates
 pub mod Telling
 pub mod Searching
 pub mod Answers
+pub mod Checking

@@ -3,6 +3,7 @@
 #![tactic(auto)]
 
 pub mod candidate;
+pub mod checking;
 pub mod fitting;
 pub mod opening;
 pub mod proving;

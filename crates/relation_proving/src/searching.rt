@@ -8,7 +8,7 @@ use relation_terms::terms::OutOfMemory;
 
 /// What became of the goals of a list that were asked one after another.
 #[derive(Clone, Copy)]
-pub enum Round {
+pub(crate) enum Round {
     /// The one of this number follows, and of those before it that isn't told.
     Proved(usize),
     /// One doesn't follow.
@@ -19,7 +19,7 @@ pub enum Round {
 
 /// What became of a rule for a goal.
 #[derive(Drop)]
-pub enum Tried<R> {
+pub(crate) enum Tried<R> {
     /// The goal follows by it, and this is recorded then.
     Follows(R),
     /// It doesn't.
@@ -30,7 +30,7 @@ pub enum Tried<R> {
 
 /// What is known of the rules that were tried so far.
 #[derive(Drop)]
-pub enum Search<R> {
+pub(crate) enum Search<R> {
     /// The goal follows by none.
     Nothing,
     /// It follows by one alone, and this is recorded then.
@@ -40,7 +40,7 @@ pub enum Search<R> {
 }
 
 /// A spent depth counts before ambiguity.
-pub fn worse(first: Why, second: Why) -> Why
+pub(crate) fn worse(first: Why, second: Why) -> Why
     ensures { result ≡ worse_of first second }
 {
     match first {
@@ -50,7 +50,7 @@ pub fn worse(first: Why, second: Why) -> Why
 }
 
 /// What is known with one rule more.
-pub fn with_tried<R: Drop>(search: Search<R>, tried: Tried<R>) -> Search<R>
+pub(crate) fn with_tried<R: Drop>(search: Search<R>, tried: Tried<R>) -> Search<R>
     ensures { result ≡ search_after search tried }
 {
     match search {
@@ -76,7 +76,7 @@ pub fn with_tried<R: Drop>(search: Search<R>, tried: Tried<R>) -> Search<R>
 ///
 /// # Errors
 /// `OutOfMemory` where a growth was refused.
-pub fn keep_told<C: KeepsRecord>(ctx: &C, told: Told) -> Result<Tried<C::Record>, OutOfMemory>
+pub(crate) fn keep_told<C: KeepsRecord>(ctx: &C, told: Told) -> Result<Tried<C::Record>, OutOfMemory>
     requires lawful { (C.state ctx.now).lawful }
     ensures { IfOk result (KeepsTold C.state C.with_record ctx.now told) }
 {
@@ -91,7 +91,7 @@ pub fn keep_told<C: KeepsRecord>(ctx: &C, told: Told) -> Result<Tried<C::Record>
 }
 
 /// What the rules tell of the goal: where it follows by one of them alone, what was recorded then is put back.
-pub fn settle<C: KeepsRecord>(ctx: &mut C, search: Search<C::Record>) -> Told
+pub(crate) fn settle<C: KeepsRecord>(ctx: &mut C, search: Search<C::Record>) -> Told
     requires may { MaySettle C.state C.with_record ctx.old search }
     ensures told { result ≡ told_by search }
     ensures leaves { ctx.new ≡ settled C.with_record ctx.old search }
