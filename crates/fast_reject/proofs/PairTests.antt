@@ -59,8 +59,14 @@ like_rigid l r nil b ta tb n s f = absurd (n s)
 like_rigid l r (cons t ts) b ta tb n s f = absurd (n s)
 
 -- Whether one stands for another, as it is told.
+one_inside : (v w : Bool) → Some v ≡ Some w → v ≡ w
+one_inside v w e = cc
+
+pub nothing_inside : (w : Bool) → None ≡ Some w → ⊥
+nothing_inside w e = cc
+
 pub told_some : (o : Option Bool) (w : Bool) → o ≡ Some w → (w ≡ true) ↔ (o ≡ Some true)
-told_some o w e = (λ i. e ∙ ap (λ x. Some x) i, λ h. let q : Some w ≡ Some true = sym e ∙ h in cc)
+told_some o w e = (λ i. e ∙ ap (λ x. Some x) i, λ h. one_inside w true (sym e ∙ h))
 
 pub told_none : (o : Option Bool) → ((w : Bool) → o ≡ Some w → ⊥) → (false ≡ true) ↔ (o ≡ Some true)
 told_none o n = (λ i. absurd (cc), λ h. absurd (n true h))
@@ -82,12 +88,12 @@ module _ (l r : Bool) (d : ℕ) (a b : Tree) (ta : tree_sort a ≡ type_sort) (t
   told_by true g =
       let s : stands l a b ≡ Some (may_stand a b) = ap (λ p. cond p (Some (may_stand a b)) None) g in
       let there : w ≡ true → may_stand a b ≡ true =
-      (λ i. let q : Some (may_stand a b) ≡ Some true = sym s ∙ o.0 i in cc) in
+      (λ i. one_inside (may_stand a b) true (sym s ∙ o.0 i)) in
       let back : may_stand a b ≡ true → w ≡ true = (λ i. o.1 (s ∙ ap (λ x. Some x) i)) in
       left_decides l r d a b ta tb e w z f g (same_answer w (may_stand a b) there back)
   told_by false g =
       let s : stands l a b ≡ None = ap (λ p. cond p (Some (may_stand a b)) None) g in
-      let never : w ≡ true → ⊥ = (λ i. let q : None {Bool} ≡ Some true = sym s ∙ o.0 i in cc) in
+      let never : w ≡ true → ⊥ = (λ i. nothing_inside true (sym s ∙ o.0 i)) in
       (λ i. forms_clash l r d a b ta tb e z f g n, λ c. never_true w never)
 
   pub apart_decides : (w ≡ false) ↔ Clash l r d a b
