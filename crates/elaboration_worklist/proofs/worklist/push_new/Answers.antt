@@ -7,8 +7,8 @@ use Rattle.elaboration_worklist.proofs.Members.{was_there, was_absent}
 use Rattle.elaboration_worklist.proofs.Worklists.{item_known, item_new, item_full, pushed_alike}
 use Rattle.elaboration_worklist.proofs.worklist.push_new.Goals as goal
 
-pub returns-then-len-list-then-contains : goal.returns-then-len-list-then-contains
-returns-then-len-list-then-contains g c =
+pub returns-then-contains : goal.returns-then-contains
+returns-then-contains g c =
     let w = c.args.list.now in
     let n = g.I.Interner.meaning c.anonymize_bound_vars.new.cx in
     item_known g.O.HasTree.tree g.O.HasTree.stays c.in_ok-key.ensures.grown
@@ -19,8 +19,8 @@ returns-then-len-list-then-contains g c =
     c.predicate-predicate.ensures) tt
     (sym c.contains.ensures ∙ c.if-contains.true)
 
-pub returns-then-len-list-else-contains : goal.returns-then-len-list-else-contains
-returns-then-len-list-else-contains g c =
+pub returns-else-contains : goal.returns-else-contains
+returns-else-contains g c =
     let w = c.args.list.now in
     let room = c.if-len-list.true in
     let count = c.len.ensures.len in
