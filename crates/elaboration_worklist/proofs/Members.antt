@@ -1,19 +1,10 @@
 -- Members of lists.
-use Rattle.std.proofs.Common.{◌≡◌, ◌∙◌, ◌⊎◌, refl, sym, ap, ap₂, subst, inl, inr, suc, ◌<◌, arith, Bool, true, false, not, IsTrue, List, [], ◌∷◌, ◌++◌, map, length}
+use Rattle.std.proofs.Common.{◌≡◌, ◌⊎◌, refl, ap, ap₂, subst, inl, inr, suc, ◌<◌, arith, false, IsTrue, List, [], ◌∷◌, ◌++◌, map, length}
 use Rattle.std.proofs.lemmas.Bool.{false≢true}
 use Rattle.std.proofs.lemmas.List.Elements.{All-head, All-tail, Contains-append_cases, Contains-append_left}
 use Rattle.std.proofs.lemmas.List.Elements.{Contains-append_right, Contains-push, Contains-push_cases}
 use Rattle.std.specs.List.{All, Contains}
 use Rattle.relation_terms.specs.Trees.{Tree}
-
--- Whether a key is new says whether it was there.
-pub was_there : (a b : Bool) → a ≡ false → a ≡ not b → b ≡ true
-was_there a true f n = refl
-was_there a false f n = absurd (false≢true (sym f ∙ n))
-
-pub was_absent : (a b : Bool) → a ≡ true → a ≡ not b → b ≡ false
-was_absent a true t n = absurd (false≢true (sym n ∙ t))
-was_absent a false t n = refl
 
 -- No list of none has a member.
 pub none_in : {A : Type 0} (x : A) → Contains [] x → ⊥

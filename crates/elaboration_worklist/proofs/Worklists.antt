@@ -186,26 +186,6 @@ module _ {X D N O : Type 0} (tree : Meaning X D N → O → Tree)
       full = λ q. full_key e eq same (m.name w.name) o known_o w.stack.items w.visited.keys w.limit h k sure is at room;
     }
 
-  -- A worklist of the same elements, at the same limit and name.
-  pub pushed_alike : {T : Type 0} {m n : Meaning X D N} {cs : List Tree} {w u v : Worklist X O N} {r : Result T ElabFault} →
-      v.stack.items ≡ u.stack.items → v.visited.keys ≡ u.visited.keys → v.limit ≡ u.limit → v.name ≡ u.name →
-      Pushed tree m n cs w u r → Pushed tree m n cs w v r
-  pushed_alike {m = m} {n = n} {cs = cs} {w = w} {u = u} {v = v} {r = r} s k l a p = record {
-    grown = p.grown;
-    kept = subst (λ z. AreKept tree n z v.visited.keys v.limit) (sym s)
-        (subst (λ z. AreKept tree n u.stack.items z v.limit) (sym k)
-        (subst (λ z. AreKept tree n u.stack.items u.visited.keys z) (sym l) p.kept));
-    limit = l ∙ p.limit;
-    name = a ∙ p.name;
-    all = subst (λ z. OnOk r (Pushes (m.name w.name) cs (map (tree m) w.stack.items) (map m.predicate w.visited.keys)
-        (map (tree n) z) (map n.predicate v.visited.keys) v.limit)) (sym s)
-        (subst (λ z. OnOk r (Pushes (m.name w.name) cs (map (tree m) w.stack.items) (map m.predicate w.visited.keys)
-        (map (tree n) u.stack.items) (map n.predicate z) v.limit)) (sym k)
-        (subst (λ z. OnOk r (Pushes (m.name w.name) cs (map (tree m) w.stack.items) (map m.predicate w.visited.keys)
-        (map (tree n) u.stack.items) (map n.predicate u.visited.keys) z)) (sym l) p.all));
-    full = p.full;
-  }
-
   -- Nothing was pushed, for want of memory or since there was nothing.
   pub pushed_refused : {T : Type 0} (m n : Meaning X D N) (e : Extends m n) (cs : List Tree) (w v : Worklist X O N)
       (f : ElabFault) → IsKept tree m w → v.stack.items ≡ w.stack.items → v.visited.keys ≡ w.visited.keys →

@@ -7,15 +7,15 @@ use crate::elaboratable::Elaboratable;
 use crate::faults::ElabFault;
 use anonymize::anonymize_bound_vars;
 use relation_terms::terms::{Interner, PredicateKey};
+use std::collections::HashSet;
 use std::hash::Hash;
-use traversal::Met;
 
 /// What is still to be yielded, the last one next; the anonymised predicates of all that was ever put there, how many
 /// of them there may be, and the name that they go by.
 #[derive(Drop)]
 pub struct Worklist<X: Eq + Hash, O, N> {
     pub stack: Vec<O>,
-    pub visited: Met<PredicateKey<X>>,
+    pub visited: HashSet<PredicateKey<X>>,
     pub limit: usize,
     pub name: N,
 }
@@ -39,16 +39,14 @@ pub fn push_new<I: Interner, O: Elaboratable<I>>(
 {
     let predicate = obligation.predicate(cx);
     let key = anonymize_bound_vars(cx, &predicate, list.name)?;
+    if list.visited.contains(&key) {
+        return Ok(());
+    }
     if list.visited.len() >= list.limit {
-        if list.visited.contains(&key) {
-            return Ok(());
-        }
         return Err(ElabFault::Limit);
     }
     list.stack.reserve(1)?;
-    if !list.visited.insert(key)? {
-        return Ok(());
-    }
+    list.visited.insert(key)?;
     list.stack.push_reserved(obligation);
     Ok(())
 }

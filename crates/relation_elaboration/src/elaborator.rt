@@ -16,8 +16,8 @@ ghost use Rattle.relation_elaboration.specs.Pulling.{HasNoRoom, BeginsWith, ByCl
 use elaboration_worklist::{ElabFault, Elaboratable, Worklist, WorklistOf, push_new};
 use relation_statements::push_children;
 use relation_terms::terms::Interner;
+use std::collections::HashSet;
 use std::marker::Model;
-use traversal::none_met;
 
 /// Predicates, and what follows from them.
 ///
@@ -116,7 +116,7 @@ impl<'a, I: Interner, O: Elaboratable<I>> Elaborator<'a, I, O> {
     {
         let list = Worklist {
             stack: Vec::new(cx.alloc()),
-            visited: none_met(cx.alloc()),
+            visited: HashSet::new(cx.alloc()),
             limit,
             name: cx.dummy_name(),
         };

@@ -134,6 +134,15 @@ module _ {K : Type 0} (eq : K → K → Bool) (number_of : K → ℕ) (same : Ar
 abbrev pub equal_ids : {Id : Type 0} → (Id → Id → Bool) → TraitId Id → TraitId Id → Bool
 equal_ids eq d e = eq d.0 e.0
 
+-- Whether a key is new says whether it was there.
+pub was_there : (a b : Bool) → a ≡ false → a ≡ not b → b ≡ true
+was_there a true f n = refl
+was_there a false f n = absurd (false≢true (sym f ∙ n))
+
+pub was_absent : (a b : Bool) → a ≡ true → a ≡ not b → b ≡ false
+was_absent a true t n = absurd (false≢true (sym n ∙ t))
+was_absent a false t n = refl
+
 -- What holds between calls, after these were yielded.
 module _ (s : Statements) (d : ℕ) where
   record Stands (ys stack reached : List ℕ) : Type 0 where

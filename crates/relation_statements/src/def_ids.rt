@@ -8,8 +8,8 @@ ghost use Rattle.relation_statements.specs.TraitClauses.{trait_named};
 
 use crate::trait_clauses::trait_reference;
 use relation_terms::terms::{Clause, Interner, OutOfMemory, TraitId};
+use std::collections::HashSet;
 use std::marker::Model;
-use traversal::{Met, none_met};
 
 /// The traits that are reached from a trait by super-predicates, each once: the last that was found first. Where a
 /// growth was refused it yields `OutOfMemory`, then and at each later call.
@@ -17,7 +17,7 @@ use traversal::{Met, none_met};
 pub struct SupertraitDefIds<'a, I: Interner> {
     cx: &'a I,
     stack: Vec<TraitId<I::Id>>,
-    reached: Met<TraitId<I::Id>>,
+    reached: HashSet<TraitId<I::Id>>,
     failed: bool,
 }
 
@@ -48,7 +48,7 @@ pub fn supertrait_def_ids<I: Interner>(
 {
     let mut stack = Vec::new(cx.alloc());
     stack.push(trait_id)?;
-    let mut reached = none_met(cx.alloc());
+    let mut reached = HashSet::new(cx.alloc());
     reached.insert(trait_id)?;
     Ok(SupertraitDefIds {
         cx,
@@ -63,7 +63,7 @@ fn reach<I: Interner>(
     cx: &I,
     clause: &Clause<I>,
     stack: &mut Vec<TraitId<I::Id>>,
-    reached: &mut Met<TraitId<I::Id>>,
+    reached: &mut HashSet<TraitId<I::Id>>,
 ) -> Result<(), OutOfMemory>
     requires { IsTrue (known ((I.meaning cx.now).clause clause.now)) }
     ensures { let m = I.meaning cx.now in OnOk result (Spreads (filter_map trait_named (m.clause clause.now ∷ []))
@@ -86,7 +86,7 @@ fn reach_supers<I: Interner>(
     cx: &I,
     trait_id: &TraitId<I::Id>,
     stack: &mut Vec<TraitId<I::Id>>,
-    reached: &mut Met<TraitId<I::Id>>,
+    reached: &mut HashSet<TraitId<I::Id>>,
 ) -> Result<(), OutOfMemory>
     ensures { let m = I.meaning cx.now in OnOk result (Spreads (supers_named (statements m) (number m trait_id.now))
         (numbers m stack.old.items) (numbers m reached.old.keys) (numbers m stack.new.items)

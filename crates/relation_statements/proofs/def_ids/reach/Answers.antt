@@ -6,9 +6,9 @@ use Rattle.std.proofs.lemmas.Bool.{MatchBool-at_true, MatchBool-at_false}
 use Rattle.std.proofs.lemmas.List.Sorted.{IsPermutation-map}
 use Rattle.relation_statements.specs.TraitClauses.{trait_named}
 use Rattle.relation_statements.specs.Reach.{Spreads, number, numbers}
-use Rattle.elaboration_worklist.proofs.Members.{map_both, was_there, was_absent}
+use Rattle.elaboration_worklist.proofs.Members.{map_both}
 use Rattle.relation_statements.proofs.Reaching.{spreads_none, spreads_known, spreads_one, names_none, names_one}
-use Rattle.relation_statements.proofs.Reaching.{equal_ids, any_there, none_there}
+use Rattle.relation_statements.proofs.Reaching.{equal_ids, any_there, none_there, was_there, was_absent}
 use Rattle.relation_statements.proofs.def_ids.reach.Goals as goal
 
 pub returns-in_default : goal.returns-in_default

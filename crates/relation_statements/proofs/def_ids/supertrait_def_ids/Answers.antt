@@ -11,12 +11,12 @@ returns-clause-by_reach g c =
     let m = g.I.Interner.meaning c.args.cx.now in
     let id = c.args.trait_id in
     let eq = equal_ids g.I.Id.PartialEq.eq in
-    let first = c.none_met-reached.result.keys in
+    let first = c.new-reached.result.keys in
     let keys = c.insert.new.self.keys in
     let items = c.push.new.self.items in
-    let perm = subst (λ z. IsPermutation (id ∷ z) keys) c.none_met-reached.ensures
+    let perm = subst (λ z. IsPermutation (id ∷ z) keys) c.new-reached.ensures.empty
     (MatchBool-at_true (IsPermutation (id ∷ first) keys) (keys ≡ first)
-    (c.in_ok-insert.ensures.added ∙ ap (λ z. not (list_any (eq id) z)) c.none_met-reached.ensures)
+    (c.in_ok-insert.ensures.added ∙ ap (λ z. not (list_any (eq id) z)) c.new-reached.ensures.empty)
     c.in_ok-insert.ensures.keys) in
     by_reach g.I.Interner.meaning (number m id) (reaching_by g.I.Interner.meaning c.args.cx.now items keys false)
     (g.met.I.Interner.states c.args.cx.now)
