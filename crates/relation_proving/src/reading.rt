@@ -1,8 +1,11 @@
-//! Clauses whose binders bind nothing.
-ghost use Rattle.std.specs.Prelude.{IsSome, IsTrue};
+//! Clauses whose binders bind nothing, and those that come to one thing.
+ghost use Rattle.std.specs.Prelude.{◌≡◌, IsSome, IsTrue, not};
 ghost use Rattle.relation_terms.specs.Trees.{known};
+ghost use Rattle.relation_folds.specs.Visits.{non_region_infer_stands};
 ghost use Rattle.relation_proving.specs.Bodies.{FindsBody, FindsUnbound};
 
+use relation_folds::visit::has_non_region_infer;
+use relation_semantics::infer_ctxt::InferCtxtLike;
 use relation_terms::predicate::{TraitPredicate, as_trait_clause};
 use relation_terms::terms::{Binder, Clause, Interner, Keys};
 
@@ -34,4 +37,13 @@ pub fn trait_body<I: Interner>(cx: &I, clause: &Clause<I>) -> Option<TraitPredic
         Some(form) => unbound(cx, form),
         None => None,
     }
+}
+
+/// Whether no variable but of regions stands in a clause, which the interner knows: so all assignments make one of it, up
+/// to erasure.
+pub(crate) fn comes_to_one<C: InferCtxtLike>(ctx: &C, clause: &Clause<C::Interner>) -> bool
+    requires { IsTrue (known (((C.state ctx.now).meaning).clause clause.now)) }
+    ensures { result ≡ not (non_region_infer_stands (((C.state ctx.now).meaning).clause clause.now)) }
+{
+    !has_non_region_infer(ctx.cx(), clause)
 }
