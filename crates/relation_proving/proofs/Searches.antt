@@ -196,10 +196,10 @@ module _ {S R Key Id Name : Type 0} (state : S → Context Key Id Name) (with_re
         s.2,
       )
       after false o (Found r) (Unclear why) s t = tt
-      after true o (Open why) (Follows q) s t = first_is (o refl) q t
-      after false o (Open why) (Follows q) s t = tt
       after enough o (Open why) Fails s t = tt
       after enough o (Open why) (Unclear again) s t = tt
+      after true o (Open why) (Follows q) s t = first_is (o refl) q t
+      after false o (Open why) (Follows q) s t = tt
 
       pub search_goes_on : (enough : Bool) → (enough ≡ true → HasOneValue c.store (goal_tree c g)) →
           (search : Search R) (tried : Tried R) → TellsSearch now n search →

@@ -43,10 +43,10 @@ search_after true (Found r) tried = Found r
 search_after false (Found r) (Follows q) = Open Ambiguous
 search_after false (Found r) Fails = Found r
 search_after false (Found r) (Unclear why) = Open why
-search_after true (Open why) (Follows r) = Found r
-search_after false (Open why) (Follows r) = Open why
 search_after enough (Open why) Fails = Open why
 search_after enough (Open why) (Unclear again) = Open (worse_of why again)
+search_after true (Open why) (Follows r) = Found r
+search_after false (Open why) (Follows r) = Open why
 
 -- What that tells of the goal, and the context then.
 abbrev pub told_by : {R : Type 0} → Search R → Told

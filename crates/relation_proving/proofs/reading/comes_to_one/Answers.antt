@@ -1,4 +1,4 @@
-use Rattle.std.proofs.Common.{ap, sym, subst, ◌∙◌, not, IsTrue}
+use Rattle.std.proofs.Common.{◌≡◌, ap, sym, subst, not, IsTrue}
 use Rattle.relation_terms.specs.Trees.{known}
 use Rattle.relation_folds.specs.Visits.{non_region_infer_stands}
 use Rattle.relation_proving.proofs.reading.comes_to_one.Goals as goal
@@ -9,4 +9,5 @@ has_non_region_infer-requires g c =
 
 pub returns : goal.returns
 returns g c =
-    ap not (c.has_non_region_infer.ensures ∙ ap (λ m. non_region_infer_stands (m.clause c.args.clause.now)) c.cx.ensures)
+    subst (λ m. not c.has_non_region_infer.result ≡ not (non_region_infer_stands (m.clause c.args.clause.now)))
+    c.cx.ensures (ap not c.has_non_region_infer.ensures)
