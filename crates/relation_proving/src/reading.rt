@@ -86,11 +86,7 @@ fn are_of_two<I: Interner>(cx: &I, first: &Clause<I>, second: &Clause<I>) -> boo
 }
 
 /// Whether the first clause of a rule says something of a trait, and a goal of another. The interner has to know both.
-pub(crate) fn gives_another_trait<I: Interner>(
-    cx: &I,
-    rule: &RuleOf<I>,
-    goal: &Clause<I>,
-) -> bool
+pub(crate) fn gives_another_trait<I: Interner>(cx: &I, rule: &RuleOf<I>, goal: &Clause<I>) -> bool
     requires rule_known { IsTrue (known (rule_tree (I.meaning cx.now) rule.now)) }
     requires goal_known { IsTrue (known ((I.meaning cx.now).clause goal.now)) }
     ensures { IsTrue result → GivesAnother (I.meaning cx.now) rule.now goal.now }
