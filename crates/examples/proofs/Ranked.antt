@@ -70,19 +70,21 @@ module _ {Key Id Name : Type 0} (m n o : Meaning Key Id Name) (e : Extends m n) 
   clause_result p (Err x) s = tt
 
 -- A rule of clauses that were known before its binder's list was made.
-module _ {Key Id Name : Type 0} (m n o : Meaning Key Id Name) (e : Extends m n) (f : Extends n o)
-    (cs : List (ClauseKey Key)) (h : IsTrue (known (list_tree m.clause cs))) where
+module _ {Key Id Name : Type 0} (m n : Meaning Key Id Name) (e : Extends m n) (cs : List (ClauseKey Key))
+    (h : IsTrue (known (list_tree m.clause cs))) where
   clauses_stay : list_tree n.clause cs ≡ list_tree m.clause cs
   clauses_stay = stays_list m.clause n.clause cs e.clause h
 
   pub clauses_known : IsTrue (known (list_tree n.clause cs))
   clauses_known = subst (λ t. IsTrue (known t)) (sym clauses_stay) h
 
+module _ {Key Id Name : Type 0} (m n o : Meaning Key Id Name) (e : Extends m n) (f : Extends n o)
+    (cs : List (ClauseKey Key)) (h : IsTrue (known (list_tree m.clause cs))) where
   pub rule_made : (r : Binder Key (ClausesKey Key)) (bs : List (BoundVariableKind Name)) →
       n.bound_vars r.bound_vars ≡ Some (bound_kinds m bs) → o.clauses r.value ≡ list_tree n.clause cs →
       rule_tree o r ≡ bind (bound_kinds m bs) (list_tree m.clause cs)
   rule_made r bs binds made =
-      ap₂ under (f.bound_vars r.bound_vars (subst IsSome (sym binds) refl) ∙ binds) (made ∙ clauses_stay)
+      ap₂ under (f.bound_vars r.bound_vars (subst IsSome (sym binds) refl) ∙ binds) (made ∙ clauses_stay m n e cs h)
 
 -- The rule for vectors, by its parts as they were made one after another.
 module _ {Key Id Name : Type 0} (m n o p q : Meaning Key Id Name) (e : Extends m n) (f : Extends n o) (g : Extends o p)
