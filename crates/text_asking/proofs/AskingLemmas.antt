@@ -1,20 +1,13 @@
 -- Terms that are ready, and contexts that have what they need.
 use Rattle.std.proofs.Common.{◌≡◌, ℕ, ◌<◌, sym, subst, arith, List, [], ◌∷◌, Option, Some, map, slice_get, refl}
-use Rattle.std.proofs.Common.{All, Result, Ok, Err, subst₂}
-use Rattle.std.specs.Prelude.{IfOk, IfErr}
-use Rattle.std.specs.Global.{Vec}
+use Rattle.std.proofs.Common.{subst₂}
 use Rattle.std.proofs.Common.{IsTrue}
 use Rattle.std.proofs.lemmas.Bool.{and_parts}
 use Rattle.relation_terms.specs.declared.terms.generic_arg.GenericArgKind.{GenericArgKind}
-use Rattle.relation_terms.specs.declared.terms.goal.Goal.{Goal}
-use Rattle.relation_terms.specs.declared.terms.keys.PredicateKey.{PredicateKey}
 use Rattle.relation_terms.specs.Heads.{arguments, VarKind, type_var, int_var, float_var, const_var, region_var}
 use Rattle.relation_terms.specs.Trees.{Tree, node, known, list_tree}
 use Rattle.relation_terms.specs.Meaning.{Meaning, Extends, arg_tree}
 use Rattle.relation_terms.proofs.Stays.{stays_arg}
-use Rattle.relation_folds.specs.declared.error.RelateFault.{RelateFault}
-use Rattle.relation_folds.specs.Faults.{KnowsFault}
-use Rattle.relation_semantics.specs.Goals.{KnowsGoal}
 use Rattle.relation_semantics.specs.Stores.{IsTermIn}
 use Rattle.variable_tables.specs.declared.inner.InferCtxtInner.{InferCtxtInner}
 use Rattle.variable_tables.specs.Tables.{store_of}
@@ -31,7 +24,7 @@ use Rattle.text_asking.specs.Meets.{AllKnown}
 use Rattle.text_asking.specs.Puts.{AreMade, ArePuts}
 use Rattle.text_terms.proofs.BuildingLemmas.{both_true}
 use Rattle.text_needs.specs.Needs.{Allows, Reaches, largest, both_needs, need_at, needs_with, needs_of}
-use Rattle.text_asking.specs.Asking.{IsAsked, IsRelatable, IsReady, AreReady, Has, IsAskable, KnowsRelated}
+use Rattle.text_asking.specs.Asking.{IsAsked, IsRelatable, IsReady, AreReady, Has, IsAskable}
 use Rattle.text_needs.proofs.BoundLemmas.{all_bound}
 use Rattle.text_needs.proofs.NeedLemmas.{reaches_left, reaches_right, allowed_in, all_enough}
 use Rattle.text_needs.proofs.NeedLemmas.{allows_right, allows_still}
@@ -107,14 +100,6 @@ pub ready_in : {Key Id Name : Type 0} (m : Meaning Key Id Name) (x : InferCtxtIn
     (t : Tree) → IsAsked n → IsReady n t → IsTermIn (store_of m x) t
 ready_in m x n h t k r = allowed_in (store_of m x) n
     (λ v i o. subst (λ l. i < l) (sym (entries_count m x v)) (h.variables v i o)) h.universe t r.0 r.1.0 (r.1.1 k).stays
-
--- What relating answered is known.
-pub related_known : {Key Id Name : Type 0} (m : Meaning Key Id Name)
-    (result : Result (Vec (Goal Key (PredicateKey Key))) (RelateFault Key Id Name))
-    (P : Vec (Goal Key (PredicateKey Key)) → Type 0) → IfOk result (λ goals. All (KnowsGoal m) goals.items × P goals) →
-    IfErr result (KnowsFault m) → KnowsRelated m result
-related_known m (Ok goals) P h k = h.0
-related_known m (Err e) P h k = k
 
 -- Keys that were built, and what their terms need.
 pub all_ready : {Key Id Name : Type 0} (m : Meaning Key Id Name) (items names parts : List ℕ) (xs : List Term)

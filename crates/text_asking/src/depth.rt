@@ -28,15 +28,59 @@ fn is_variable(term: &Term) -> bool {
 }
 
 // Adds the numbers of a range.
-pub(super) fn push_range(
-    numbers: &[usize],
-    range: Parts,
-    found: &mut Vec<usize>,
-) -> Result<(), AllocError> {
+fn push_range(numbers: &[usize], range: Parts, found: &mut Vec<usize>) -> Result<(), AllocError> {
     for number in numbers.get(range.first..range.behind).unwrap_or(&[]) {
         found.push(*number)?;
     }
     Ok(())
+}
+
+// Numbers of terms: up to two, and those of a range.
+pub(super) type Numbers = (Option<usize>, Option<usize>, Parts);
+
+// Of no term.
+pub(super) const NO_PARTS: Parts = Parts {
+    first: 0,
+    behind: 0,
+};
+
+// The numbers of a term's parts, but for regions.
+fn parts_of(term: &Term) -> Numbers {
+    match term {
+        Term::Slice(part)
+        | Term::RawPtr(part, _)
+        | Term::Ref(_, part, _)
+        | Term::UnsafeBinder(_, part) => (Some(*part), None, NO_PARTS),
+        Term::Array(first, second) | Term::Pat(first, second) | Term::Range(first, second) => {
+            (Some(*first), Some(*second), NO_PARTS)
+        }
+        Term::Item(_, _, parts)
+        | Term::Tuple(parts)
+        | Term::Branch(_, parts)
+        | Term::Expr(_, parts)
+        | Term::Or(parts)
+        | Term::FnPtr(_, _, parts)
+        | Term::Object(parts, _)
+        | Term::Implements(_, _, parts) => (None, None, *parts),
+        Term::Projects(_, _, args, part) => (Some(*part), None, *args),
+        _ => (None, None, NO_PARTS),
+    }
+}
+
+// Adds numbers of terms.
+pub(super) fn push_numbers(
+    numbers: &[usize],
+    those: Numbers,
+    found: &mut Vec<usize>,
+) -> Result<(), AllocError> {
+    let (first, second, range) = those;
+    if let Some(first) = first {
+        found.push(first)?;
+    }
+    if let Some(second) = second {
+        found.push(second)?;
+    }
+    push_range(numbers, range, found)
 }
 
 // Adds the numbers of a term's parts, but for regions.
@@ -45,29 +89,7 @@ pub(super) fn push_parts(
     term: &Term,
     found: &mut Vec<usize>,
 ) -> Result<(), AllocError> {
-    match term {
-        Term::Slice(part) => found.push(*part)?,
-        Term::RawPtr(part, _) => found.push(*part)?,
-        Term::Ref(_, part, _) => found.push(*part)?,
-        Term::UnsafeBinder(_, part) => found.push(*part)?,
-        Term::Array(first, second) => found.extend_from_slice(&[*first, *second])?,
-        Term::Pat(first, second) => found.extend_from_slice(&[*first, *second])?,
-        Term::Range(first, second) => found.extend_from_slice(&[*first, *second])?,
-        Term::Item(_, _, parts) => push_range(numbers, *parts, found)?,
-        Term::Tuple(parts) => push_range(numbers, *parts, found)?,
-        Term::Branch(_, parts) => push_range(numbers, *parts, found)?,
-        Term::Expr(_, parts) => push_range(numbers, *parts, found)?,
-        Term::Or(parts) => push_range(numbers, *parts, found)?,
-        Term::FnPtr(_, _, types) => push_range(numbers, *types, found)?,
-        Term::Object(parts, _) => push_range(numbers, *parts, found)?,
-        Term::Implements(_, _, args) => push_range(numbers, *args, found)?,
-        Term::Projects(_, _, args, part) => {
-            found.push(*part)?;
-            push_range(numbers, *args, found)?;
-        }
-        _ => {}
-    }
-    Ok(())
+    push_numbers(numbers, parts_of(term), found)
 }
 
 // Whether a number is marked in a list.

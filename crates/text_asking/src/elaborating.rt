@@ -4,6 +4,7 @@ ghost use Rattle.std.specs.List.{All};
 ghost use Rattle.relation_terms.specs.Trees.{known};
 ghost use Rattle.relation_terms.specs.Meaning.{Meaning, Extends};
 ghost use Rattle.relation_terms.specs.Owned.{bound_tree};
+ghost use Rattle.text_clauses.specs.Made.{MakesEach};
 ghost use Rattle.text_elaboration.specs.Pulls.{KnowsPulled};
 ghost use Rattle.variable_tables.specs.Tables.{IsLawful};
 ghost use Rattle.text_asking.specs.Asking.{AllReady};
@@ -40,6 +41,8 @@ pub(super) fn clauses_of<I: Interner>(
     requires { AllReady (I.meaning cx.old) terms.now }
     ensures grown { Extends (I.meaning cx.old) (I.meaning cx.new) }
     ensures sure { IfSome result (λ ks. All (λ k. IsTrue (known ((I.meaning cx.new).clause k))) ks.items) }
+    ensures made { let t = terms.now in
+        MakesEach I.meaning cx.old cx.new t.ids.now t.names.now t.parts.now t.built.now t.clauses.now range result }
 {
     build_clauses(
         cx,

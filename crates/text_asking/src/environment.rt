@@ -3,6 +3,7 @@ ghost use Rattle.std.specs.Prelude.{IsTrue, IfOk};
 ghost use Rattle.relation_terms.specs.Trees.{known};
 ghost use Rattle.relation_terms.specs.Meaning.{Extends};
 ghost use Rattle.text_asking.specs.Asking.{AllReady};
+ghost use Rattle.text_asking.specs.Environments.{MakesEnvironment};
 
 use crate::elaborating::clauses_of;
 use crate::question::{Ready, Unasked};
@@ -21,17 +22,14 @@ pub(super) fn environment_of<I: Interner>(
     requires { AllReady (I.meaning cx.old) terms.now }
     ensures grown { Extends (I.meaning cx.old) (I.meaning cx.new) }
     ensures sure { IfOk result (λ k. IsTrue (known ((I.meaning cx.new).param_env k))) }
+    ensures made { MakesEnvironment I.meaning cx.old cx.new terms.now assumed result }
 {
     let Some(clauses) = clauses_of(cx, terms, assumed) else {
         return Err(Unasked::Memory);
     };
-    let Ok(list) = cx.mk_clauses(&clauses) else {
-        return Err(Unasked::Memory);
-    };
-    match cx.mk_param_env(list) {
-        Ok(param_env) => Ok(param_env),
-        Err(_) => Err(Unasked::Memory),
-    }
+    let list = cx.mk_clauses(&clauses)?;
+    let param_env = cx.mk_param_env(list)?;
+    Ok(param_env)
 }
 
 // Writes what an environment has, if anything.

@@ -1,6 +1,6 @@
 //! By how many levels what traits state is deeper, and how far an elaboration may go by it.
 
-use crate::depth::{MOST, push_parts, push_range};
+use crate::depth::{MOST, NO_PARTS, Numbers, push_numbers, push_parts};
 use std::alloc::{AllocError, Global};
 use text_elaboration::pulls::LIMIT;
 use text_reading::naming::{Parts, Program, Question, QuestionKind, Says, Stated, Term};
@@ -34,21 +34,17 @@ fn parameter_levels(alloc: Global, program: &Program) -> Result<Vec<usize>, Allo
     Ok(levels)
 }
 
-// Adds the numbers of the terms of a predicate.
-fn push_said(numbers: &[usize], says: &Says, found: &mut Vec<usize>) -> Result<(), AllocError> {
+// The numbers of the terms of a predicate, but for regions.
+fn terms_of(says: &Says) -> Numbers {
     match says {
-        Says::Claims(_, _, args) => push_range(numbers, *args, found)?,
-        Says::TypeOutlives(ty, _) => found.push(*ty)?,
-        Says::ComesTo(_, _, args, term) => {
-            found.push(*term)?;
-            push_range(numbers, *args, found)?;
+        Says::Claims(_, _, args) => (None, None, *args),
+        Says::ComesTo(_, _, args, term) => (Some(*term), None, *args),
+        Says::TypeOutlives(term, _) | Says::WellFormed(term) | Says::ConstEvaluatable(term) => {
+            (Some(*term), None, NO_PARTS)
         }
-        Says::WellFormed(term) => found.push(*term)?,
-        Says::ConstEvaluatable(constant) => found.push(*constant)?,
-        Says::ConstArgHasType(constant, ty) => found.extend_from_slice(&[*constant, *ty])?,
-        Says::RegionOutlives(..) | Says::UnstableFeature(_) => {}
+        Says::ConstArgHasType(constant, ty) => (Some(*constant), Some(*ty), NO_PARTS),
+        Says::RegionOutlives(..) | Says::UnstableFeature(_) => (None, None, NO_PARTS),
     }
-    Ok(())
 }
 
 // By how many levels the terms of what is stated are deeper at most than those that it is stated of.
@@ -65,7 +61,7 @@ fn growth_of(
         .get(range.first..range.behind)
         .unwrap_or(&[])
     {
-        push_said(&program.parts, &clause.says, &mut terms)?;
+        push_numbers(&program.parts, terms_of(&clause.says), &mut terms)?;
     }
     let mut growth = 0;
     for number in &terms {

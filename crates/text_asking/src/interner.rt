@@ -3,18 +3,22 @@
 use reference_interner::{
     DefKind, GenericParam, GenericParamKind, ItemId, ItemKind, RefInterner, SymbolId,
 };
-use relation_terms::terms::{OutOfMemory, TraitId, Variance};
+use relation_terms::terms::{Interner, OutOfMemory, TraitId, Variance};
 use std::alloc::{AllocError, Global};
 use std::collections::HashMap;
+use text_elaboration::stating::state_all;
 use text_reading::naming::{Declared, Item, ParamSort, Program};
 use text_reading::reading::ItemSort;
-use text_terms::printing::{ItemText, Texts, TraitText};
+use text_terms::printing::{ItemText, ItemTexts, NameTexts, Texts, TraitText};
 
-// The names of a program, and the texts of its names and items.
+// A program in the reference interner: the ids of its items, its names by their numbers, and the texts of both; and
+// whether each predicate that a trait states binds its variables itself.
 #[derive(Drop)]
-pub(super) struct Tables<'a> {
+pub(super) struct Stated<'a> {
+    pub ids: Vec<ItemId>,
     pub names: Vec<SymbolId>,
     pub texts: Texts<'a, ItemId, SymbolId>,
+    pub own: bool,
 }
 
 // Which kind of item an item is. Only a trait's asks for the trait.
@@ -84,19 +88,16 @@ fn add_item(
     Ok(id)
 }
 
-// An interner with the items of a program, and their ids.
-pub(super) fn make_interner(
-    alloc: Global,
-    program: &Program,
-) -> Result<(RefInterner, Vec<ItemId>), OutOfMemory> {
-    let mut cx = RefInterner::new(alloc);
+// Adds the items of a program.
+fn add_items(cx: &mut RefInterner, program: &Program) -> Result<Vec<ItemId>, OutOfMemory> {
+    let alloc = cx.alloc();
     let mut ids = Vec::new(alloc);
     let name = SymbolId(program.names.len());
     for item in &program.items {
-        let id = add_item(alloc, &mut cx, &ids, item, name)?;
+        let id = add_item(alloc, cx, &ids, item, name)?;
         ids.push(id)?;
     }
-    Ok((cx, ids))
+    Ok(ids)
 }
 
 // The text of a trait, and how many parameters it has, with the type that implements it.
@@ -107,26 +108,54 @@ fn trait_text<'a>(item: &Item<'a>) -> TraitText<'a> {
     }
 }
 
-// The names of a program by their numbers, and all texts.
-pub(super) fn make_tables<'a>(
+// The text of an item; of what a trait declares also the trait's.
+fn item_text<'a>(program: &Program<'a>, item: &Item<'a>) -> ItemText<'a> {
+    let of = item.of.and_then(|of| program.items.get(of)).map(trait_text);
+    ItemText {
+        text: item.text,
+        of,
+    }
+}
+
+// The texts of names by their numbers.
+fn name_texts<'a>(alloc: Global, names: &[&'a str]) -> Result<NameTexts<'a, SymbolId>, AllocError> {
+    let mut texts = HashMap::new(alloc);
+    for (number, text) in names.iter().enumerate() {
+        let _ = texts.insert(SymbolId(number), *text)?;
+    }
+    Ok(texts)
+}
+
+// The texts of a program's items by their ids.
+fn item_texts<'a>(
     alloc: Global,
     program: &Program<'a>,
     ids: &[ItemId],
-) -> Result<Tables<'a>, AllocError> {
-    let mut names = Vec::new(alloc);
-    let mut texts = Texts {
-        names: HashMap::new(alloc),
-        items: HashMap::new(alloc),
-    };
-    for (number, text) in program.names.iter().enumerate() {
-        let name = SymbolId(number);
-        names.push(name)?;
-        let _ = texts.names.insert(name, *text)?;
-    }
+) -> Result<ItemTexts<'a, ItemId>, AllocError> {
+    let mut texts = HashMap::new(alloc);
     for (item, id) in program.items.iter().zip(ids) {
-        let of = item.of.and_then(|of| program.items.get(of)).map(trait_text);
-        let text = item.text;
-        let _ = texts.items.insert(*id, ItemText { text, of })?;
+        let _ = texts.insert(*id, item_text(program, item))?;
     }
-    Ok(Tables { names, texts })
+    Ok(texts)
+}
+
+// Adds the items of a program to a new interner, and lets its traits state what it says.
+pub(super) fn state<'a>(
+    cx: &mut RefInterner,
+    program: &Program<'a>,
+) -> Result<Stated<'a>, OutOfMemory> {
+    let alloc = cx.alloc();
+    let ids = add_items(cx, program)?;
+    let names: Vec<SymbolId> = (0..program.names.len()).map(SymbolId).collect(alloc)?;
+    let own = state_all(cx, &ids, &names, program)?;
+    let texts = Texts {
+        names: name_texts(alloc, &program.names)?,
+        items: item_texts(alloc, program, &ids)?,
+    };
+    Ok(Stated {
+        ids,
+        names,
+        texts,
+        own,
+    })
 }

@@ -27,7 +27,9 @@ use relation_folds::error::RelateFault;
 use relation_folds::visit::{has_escaping_bound_vars, has_non_region_infer, is_known_rigid};
 use relation_reference::context::RefCtxt;
 use relation_terms::predicate::OutlivesPredicate;
-use relation_terms::terms::{GenericArg, GenericArgKind, Interner, Keys, LocalDefIds, TraitId, Ty};
+use relation_terms::terms::{
+    GenericArg, GenericArgKind, Interner, Keys, LocalDefIds, OutOfMemory, TraitId, Ty,
+};
 use relation_tools::outlives::Component;
 use std::alloc::Global;
 use text_coherence::overlapping::WhyNot;
@@ -68,6 +70,12 @@ pub(super) enum Unasked {
     NotAsked(NotAsked),
     // Why two impls are not asked about.
     Impls(WhyNot),
+}
+
+impl From<OutOfMemory> for Unasked {
+    fn from(_refused: OutOfMemory) -> Unasked {
+        Unasked::Memory
+    }
 }
 
 // What is answered to a question.
@@ -289,6 +297,16 @@ fn ask_rigid<I: Interner>(cx: &I, terms: &Ready<I>, number: usize) -> Result<boo
     Ok(is_known_rigid(cx, &ty))
 }
 
+// Whether something holds, as an answer.
+fn whether<I: Interner>(asked: Result<bool, Unasked>) -> Outcome<I>
+    ensures { (m : Meaning I.Key I.Id I.Name) → IfOk result (KnowsAnswer m (KnowsRelated m)) }
+{
+    match asked {
+        Ok(holds) => Ok(Answer::Is(holds)),
+        Err(why) => Err(why),
+    }
+}
+
 // Asks a question of a context.
 #[tactic(auto, using(relation_terms::proofs::Stays::stays_same))]
 fn ask<I: SizedKeys>(ctx: &mut RefCtxt<I>, terms: &Ready<I>, question: &Question) -> Outcome<I>
@@ -327,30 +345,20 @@ fn ask<I: SizedKeys>(ctx: &mut RefCtxt<I>, terms: &Ready<I>, question: &Question
             let folded = ask_folded(ctx, terms, term, puts)?;
             Ok(Answer::Folded(folded))
         }
-        QuestionKind::Escapes(number) => {
-            let escapes = ask_escapes(&ctx.interner, terms, number)?;
-            Ok(Answer::Is(escapes))
-        }
-        QuestionKind::Infers(number) => {
-            let infers = ask_infers(&ctx.interner, terms, number)?;
-            Ok(Answer::Is(infers))
-        }
-        QuestionKind::Rigid(number) => {
-            let rigid = ask_rigid(&ctx.interner, terms, number)?;
-            Ok(Answer::Is(rigid))
-        }
+        QuestionKind::Escapes(number) => { whether::<I>(ask_escapes(&ctx.interner, terms, number)) }
+        QuestionKind::Infers(number) => whether::<I>(ask_infers(&ctx.interner, terms, number)),
+        QuestionKind::Rigid(number) => whether::<I>(ask_rigid(&ctx.interner, terms, number)),
         QuestionKind::MayUnify {
             params,
             lhs,
             rhs,
             depth,
         } => {
-            let may = ask_may_unify(&ctx.interner, terms, params, lhs, rhs, depth)?;
-            Ok(Answer::Is(may))
+            let cx = &ctx.interner;
+            whether::<I>(ask_may_unify(cx, terms, params, lhs, rhs, depth))
         }
         QuestionKind::ArgsMayUnify { params, lhs, rhs } => {
-            let may = ask_args_may_unify(ctx, terms, params, lhs, rhs)?;
-            Ok(Answer::Is(may))
+            whether::<I>(ask_args_may_unify(ctx, terms, params, lhs, rhs))
         }
         QuestionKind::RelateArgs { lhs, rhs } => {
             let related = ask_args_related(ctx, terms, question.assumed, lhs, rhs)?;
@@ -396,10 +404,7 @@ fn ask<I: SizedKeys>(ctx: &mut RefCtxt<I>, terms: &Ready<I>, question: &Question
             let solved = ask_regions(ctx, terms, longer, shorter)?;
             Ok(Answer::Solved(solved))
         }
-        QuestionKind::One(first, second) => {
-            let one = ask_one(ctx, first, second)?;
-            Ok(Answer::Is(one))
-        }
+        QuestionKind::One(first, second) => whether::<I>(ask_one(ctx, first, second)),
         QuestionKind::Binding(variable) => {
             let bound = ask_binding(ctx, variable)?;
             Ok(Answer::Binding(bound))

@@ -5,7 +5,8 @@ use Rattle.variable_tables.proofs.Grows.{lawful_grows}
 use Rattle.text_needs.specs.Needs.{both_needs}
 use Rattle.text_asking.specs.Asking.{IsReady, Has}
 use Rattle.text_asking.proofs.AskingLemmas.{one_ready, asked_left, asked_right, has_left, has_right, ready_in}
-use Rattle.text_asking.proofs.AskingLemmas.{ready_stays, related_known}
+use Rattle.text_asking.proofs.AskingLemmas.{ready_stays}
+use Rattle.text_asking.proofs.RelatedLemmas.{related_known}
 use Rattle.text_asking.proofs.question.ask_related.Goals as goal
 
 pub environment_of-requires : goal.environment_of-requires
