@@ -9,5 +9,3 @@ pub mod Counts
 pub mod Impls
 pub mod Environments
 pub mod Programs
-pub use Rattle.text_needs.specs.Binding
-pub use Rattle.text_needs.specs.Needs

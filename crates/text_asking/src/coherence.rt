@@ -23,7 +23,7 @@ use text_clauses::printing::write_trait_ref;
 use text_coherence::methods::{GenericMethod, find_methods};
 use text_coherence::overlapping::{OverlapResult, ask_overlap};
 use text_reading::naming::{Method, Parts};
-use text_terms::building::variables_at;
+use text_terms::building::{ty_at, variables_at};
 use text_terms::printing::{TextsOf, name_text};
 
 // The headers of two impls of a trait, and the environment in which it is asked whether they overlap.
@@ -147,13 +147,13 @@ fn method_of<I: Interner>(
     ensures sure { IfSome result (λ e. IsTrue (known ((I.meaning cx.new).ty e.of.value))) }
 {
     let name = terms.names.get(method.name)?;
-    let typed = type_of(terms, method.ty)?;
+    let ty = ty_at(terms.built, method.ty)?;
     let variables = variables_at(&*cx, terms.parts, terms.built, method.variables)?;
     let Ok(bound_vars) = cx.mk_bound_vars(&variables) else {
         return None;
     };
     let of = Binder {
-        value: typed.0,
+        value: ty,
         bound_vars,
     };
     Some(GenericMethod { of, name: *name })
@@ -192,9 +192,7 @@ pub(super) fn ask_methods<I: Interner>(
     ensures lawful { IsLawful (I.meaning ctx.new.interner) ctx.new.inner }
     ensures grown { Extends (I.meaning ctx.old.interner) (I.meaning ctx.new.interner) }
 {
-    let Some((ty, _)) = type_of(terms, of) else {
-        return Err(Unasked::Memory);
-    };
+    let ty = type_of(terms, of)?;
     let Some(methods) = methods_of(&mut ctx.interner, terms, range) else {
         return Err(Unasked::Memory);
     };

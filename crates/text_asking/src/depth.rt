@@ -3,7 +3,6 @@
 use crate::context::NotAsked;
 use crate::question::Unasked;
 use std::alloc::{AllocError, Global};
-use text_needs::needs::{Needs, need_at};
 use text_reading::naming::{
     Parts, Program, Question, QuestionKind, Says, Term, VariableId, VariableKind,
 };
@@ -205,14 +204,6 @@ const NONE: Counts = Counts {
     consts: 0,
 };
 
-// How many variables there are up to that number.
-fn count_to(largest: Option<usize>) -> usize {
-    match largest {
-        None => 0,
-        Some(number) => number.saturating_add(1),
-    }
-}
-
 impl Counts {
     // At least so many.
     fn with(self, types: usize, consts: usize) -> Counts {
@@ -230,18 +221,23 @@ impl Counts {
             _ => self,
         }
     }
+
+    // And a term, if it is a variable.
+    fn with_term(self, term: &Term) -> Counts {
+        match term {
+            Term::TyVar(number) => self.with(number.saturating_add(1), 0),
+            Term::ConstVar(number) => self.with(0, number.saturating_add(1)),
+            _ => self,
+        }
+    }
 }
 
 // How many variables a question's context has at least before terms are related: those that are said to be in it, and
 // those that the question names, in terms that are related or by itself.
-fn named_by(program: &Program, needs: &[Needs], question: &Question, roots: &[usize]) -> Counts {
-    let mut named = NONE;
+fn named_by(program: &Program, question: &Question, in_terms: Counts) -> Counts {
+    let mut named = in_terms;
     for said in program.variables.get(..question.variables).unwrap_or(&[]) {
         named = named.with(said.types, said.consts);
-    }
-    for root in roots {
-        let need = need_at(needs, *root);
-        named = named.with(count_to(need.types), count_to(need.consts));
     }
     match question.kind {
         QuestionKind::One(first, second) => named.with_variable(first).with_variable(second),
@@ -311,7 +307,16 @@ struct Found {
     open: usize,
     // Whether one is a variable that was made while terms were related.
     fresh: bool,
+    // How many variables there are up to the largest that they are.
+    named: Counts,
 }
+
+// Nothing.
+const NOTHING: Found = Found {
+    open: 0,
+    fresh: false,
+    named: NONE,
+};
 
 /// How deep the terms of the context may be that was left.
 #[derive(Drop)]
@@ -368,8 +373,7 @@ impl Depths {
     // part of.
     fn find(&mut self, program: &Program, roots: &[usize]) -> Result<Found, AllocError> {
         let mut parts = Vec::new(self.alloc);
-        let mut open = 0usize;
-        let mut fresh = false;
+        let mut found = NOTHING;
         let mut top = 0;
         self.search.search = self.search.search.saturating_add(1);
         self.search.left = 0;
@@ -379,24 +383,25 @@ impl Depths {
         }
         for below in 0..program.terms.len() {
             if self.search.left == 0 || below > top {
-                return Ok(Found { open, fresh });
+                return Ok(found);
             }
             let number = top - below;
             if self.search.take(number) {
                 parts.clear();
                 if let Some(term) = program.terms.get(number) {
-                    fresh = fresh || self.is_fresh(term);
+                    found.fresh = found.fresh || self.is_fresh(term);
+                    found.named = found.named.with_term(term);
                     push_parts(&program.parts, term, &mut parts)?;
                 }
                 if !parts.is_empty() {
-                    open = open.saturating_add(1);
+                    found.open = found.open.saturating_add(1);
                 }
                 for part in &parts {
                     self.search.find(&self.open, *part);
                 }
             }
         }
-        Ok(Found { open, fresh })
+        Ok(found)
     }
 
     // Takes up a question, and answers whether it may be asked. What was instantiated is a copy: where a variable is
@@ -405,7 +410,6 @@ impl Depths {
     fn take_up(
         &mut self,
         program: &Program,
-        needs: &[Needs],
         question: &Question,
         made: Counts,
     ) -> Result<bool, AllocError> {
@@ -434,22 +438,20 @@ impl Depths {
             self.types.clear();
             self.consts.clear();
         }
-        let named = named_by(program, needs, question, &roots);
+        let named = named_by(program, question, found.named);
         self.types.before = self.types.before.max(named.types);
         self.consts.before = self.consts.before.max(named.consts);
         Ok(true)
     }
 
-    /// Why a question is not asked, if what it comes to may be too deep. What its terms need is given, and how many
-    /// variables its context has.
+    /// Why a question is not asked, if what it comes to may be too deep. It is given how many variables its context has.
     pub(super) fn refusal(
         &mut self,
         program: &Program,
-        needs: &[Needs],
         question: &Question,
         made: Counts,
     ) -> Option<Unasked> {
-        match self.take_up(program, needs, question, made) {
+        match self.take_up(program, question, made) {
             Ok(true) => None,
             Ok(false) => Some(Unasked::NotAsked(NotAsked::Depth)),
             Err(_) => Some(Unasked::Memory),

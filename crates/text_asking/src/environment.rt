@@ -2,11 +2,15 @@
 ghost use Rattle.std.specs.Prelude.{IsTrue, IfOk};
 ghost use Rattle.relation_terms.specs.Trees.{known};
 ghost use Rattle.relation_terms.specs.Meaning.{Extends};
+ghost use Rattle.variable_tables.specs.Tables.{IsLawful};
 ghost use Rattle.text_asking.specs.Asking.{AllReady};
 ghost use Rattle.text_asking.specs.Environments.{MakesEnvironment};
 
+use crate::context::have_named;
 use crate::elaborating::clauses_of;
 use crate::question::{Ready, Unasked};
+use may_relate::Named;
+use relation_reference::context::RefCtxt;
 use relation_terms::terms::{Interner, ParamEnv};
 use std::fmt::{self, Write};
 use text_clauses::printing::write_clause;
@@ -30,6 +34,26 @@ pub(super) fn environment_of<I: Interner>(
     let list = cx.mk_clauses(&clauses)?;
     let param_env = cx.mk_param_env(list)?;
     Ok(param_env)
+}
+
+// The environment of what is assumed, in a context that has the variables which two terms name.
+#[tactic(auto, using(relation_terms::proofs::Stays::extends_on))]
+pub(super) fn environment_for<I: Interner>(
+    ctx: &mut RefCtxt<I>,
+    terms: &Ready<I>,
+    assumed: Parts,
+    lhs: Named,
+    rhs: Named,
+) -> Result<ParamEnv<I>, Unasked>
+    requires lawful { IsLawful (I.meaning ctx.old.interner) ctx.old.inner }
+    requires ready { AllReady (I.meaning ctx.old.interner) terms.now }
+    ensures lawful { IsLawful (I.meaning ctx.new.interner) ctx.new.inner }
+    ensures grown { Extends (I.meaning ctx.old.interner) (I.meaning ctx.new.interner) }
+    ensures sure { IfOk result (λ k. IsTrue (known ((I.meaning ctx.new.interner).param_env k))) }
+{
+    have_named(ctx, lhs)?;
+    have_named(ctx, rhs)?;
+    environment_of(&mut ctx.interner, terms, assumed)
 }
 
 // Writes what an environment has, if anything.

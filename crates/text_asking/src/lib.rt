@@ -38,9 +38,6 @@ use relation_semantics::infer_ctxt::TypingMode;
 use sized_keys::SizedKeys;
 use std::alloc::{AllocError, Global};
 use std::fmt::{self, Write};
-use text_needs::binding::uses_of;
-pub use text_needs::needs;
-use text_needs::needs::needs_of;
 use text_reading::naming::Program;
 use text_terms::building::build;
 use text_terms::printing::TextsOf;
@@ -102,7 +99,7 @@ fn ask_ready<I: SizedKeys + Drop, W: Write>(
             types: asked.inner.types.len(),
             consts: asked.inner.consts.len(),
         };
-        let why_not = kept.depths.refusal(program, terms.needs, question, counts);
+        let why_not = kept.depths.refusal(program, question, counts);
         let bounded = kept.growths.bounded(program, question);
         let (left, outcome) = ask_unless(asked, terms, &bounded.question, why_not);
         ctx = left;
@@ -150,22 +147,14 @@ pub fn ask_over<I: SizedKeys + Drop, W: Write>(
     out: &mut W,
 ) -> fmt::Result {
     let mut interner = interner;
-    let alloc = interner.alloc();
     let Ok(no_ids) = interner.no_local_def_ids() else {
         return refuse_all(program, between, out);
     };
     let Ok(built) = build(&mut interner, ids, names, program) else {
         return refuse_all(program, between, out);
     };
-    let Ok(uses) = uses_of(alloc, program) else {
-        return refuse_all(program, between, out);
-    };
-    let Ok(needs) = needs_of(alloc, program, &uses) else {
-        return refuse_all(program, between, out);
-    };
     let terms = Ready {
         built: &built,
-        needs: &needs,
         parts: &program.parts,
         puts: &program.puts,
         skips: &program.skips,

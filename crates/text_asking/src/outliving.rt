@@ -38,13 +38,9 @@ pub(super) fn ask_components<I: SizedKeys>(
     requires { AllReady (I.meaning cx.now) terms.now }
     ensures { IfOk result (λ found. KnowsComponents (I.meaning cx.now) found.items) }
 {
-    let Some((ty, _)) = type_of(terms, number) else {
-        return Err(Unasked::Memory);
-    };
-    match cx.components(&ty) {
-        Ok(found) => Ok(found),
-        Err(_) => Err(Unasked::Memory),
-    }
+    let ty = type_of(terms, number)?;
+    let found = cx.components(&ty)?;
+    Ok(found)
 }
 
 // Writes a component. One of an alias that a variable escapes is written as the components of the alias's arguments.

@@ -1,17 +1,17 @@
 //! A question that is asked, and its answer.
-ghost use Rattle.std.specs.Prelude.{◌≡◌, IsTrue, IsFalse, IfSome, IfOk};
+ghost use Rattle.std.specs.Prelude.{◌≡◌, IsTrue, IsFalse, IfOk};
 ghost use Rattle.relation_terms.specs.Trees.{known};
 ghost use Rattle.relation_terms.specs.Meaning.{Meaning, Extends, arg_tree};
 ghost use Rattle.variable_tables.specs.Tables.{IsLawful};
 ghost use Rattle.text_asking.specs.Puts.{ArePuts};
 ghost use Rattle.text_asking.specs.Meets.{AllKnown};
-ghost use Rattle.text_asking.specs.Asking.{AllReady, IsReady, IsSetUp, KnowsAnswer, KnowsRelated};
+ghost use Rattle.text_asking.specs.Asking.{AllReady, IsSetUp, KnowsAnswer, KnowsRelated};
 
 use crate::BUDGET;
 use crate::coherence::{ask_impls_overlap, ask_methods};
-use crate::context::{NotAsked, have_all_stated, have_variables, refusal, relate, renewed};
+use crate::context::{NotAsked, have_all_stated, may_ask, relate, renewed};
 use crate::elaborating::{ask_elaborated, ask_supertrait_ids, ask_supertraits, told};
-use crate::environment::environment_of;
+use crate::environment::environment_for;
 use crate::folding::{fold, puts_at};
 use crate::lists::ask_args_related;
 use crate::outliving::{ask_assumptions, ask_components};
@@ -22,6 +22,7 @@ use crate::sized_keys::SizedKeys;
 use crate::visiting::{Met, visit};
 use crate::walking::numbers_at;
 use context_regions::Solved;
+use may_relate::named_in;
 use relation_coherence::overlap::Overlap;
 use relation_folds::error::RelateFault;
 use relation_folds::visit::{has_escaping_bound_vars, has_non_region_infer, is_known_rigid};
@@ -34,17 +35,15 @@ use relation_tools::outlives::Component;
 use std::alloc::Global;
 use text_coherence::overlapping::WhyNot;
 use text_elaboration::pulls::{Manner, Pulled};
-use text_needs::needs::{Needs, both, need_at};
 use text_reading::naming::{Clause, Method, Parts, Put, Question, QuestionKind, Variables};
 use text_reading::reading::Relation;
 use text_terms::building::{key_at, keys_at, ty_at};
 use type_relations::relate::solver_relating::RelateGoals;
 
-// The keys of a program's terms, and what each term needs.
+// The keys of a program's terms, and what questions name by numbers.
 #[derive(Drop)]
 pub(super) struct Ready<'a, I: Interner> {
     pub built: &'a [Option<GenericArg<I>>],
-    pub needs: &'a [Needs],
     // The numbers of the terms in lists, and of those that are put for others.
     pub parts: &'a [usize],
     pub puts: &'a [Put<usize>],
@@ -75,6 +74,12 @@ pub(super) enum Unasked {
 impl From<OutOfMemory> for Unasked {
     fn from(_refused: OutOfMemory) -> Unasked {
         Unasked::Memory
+    }
+}
+
+impl From<NotAsked> for Unasked {
+    fn from(why: NotAsked) -> Unasked {
+        Unasked::NotAsked(why)
     }
 }
 
@@ -133,12 +138,14 @@ pub(super) fn context_for<I: Interner>(
     renewed(ctx, terms.no_ids, question.setup, budget_of(question))
 }
 
-// The type of that number, and what it needs.
-pub(super) fn type_of<I: Interner>(terms: &Ready<I>, number: usize) -> Option<(Ty<I>, Needs)>
-    ensures { (m : Meaning I.Key I.Id I.Name) → AllReady m terms.now → IfSome result (λ p. IsReady p.1 (m.ty p.0)) }
+// The type of that number.
+pub(super) fn type_of<I: Interner>(terms: &Ready<I>, number: usize) -> Result<Ty<I>, Unasked>
+    ensures { (m : Meaning I.Key I.Id I.Name) → AllReady m terms.now → IfOk result (λ ty. IsTrue (known (m.ty ty))) }
 {
-    let ty = ty_at(terms.built, number)?;
-    Some((ty, need_at(terms.needs, number)))
+    match ty_at(terms.built, number) {
+        Some(ty) => Ok(ty),
+        None => Err(Unasked::Memory),
+    }
 }
 
 // Asks in a context whether two types are related where that is assumed.
@@ -156,19 +163,12 @@ fn ask_related<I: Interner>(
     ensures grown { Extends (I.meaning ctx.old.interner) (I.meaning ctx.new.interner) }
     ensures known { IfOk result (KnowsRelated (I.meaning ctx.new.interner)) }
 {
-    let Some((lhs, lhs_needs)) = type_of(terms, lhs) else {
-        return Err(Unasked::Memory);
-    };
-    let Some((rhs, rhs_needs)) = type_of(terms, rhs) else {
-        return Err(Unasked::Memory);
-    };
-    if let Some(why) = refusal(ctx, relation, lhs_needs, rhs_needs) {
-        return Err(Unasked::NotAsked(why));
-    }
-    let Ok(()) = have_variables(ctx, both(lhs_needs, rhs_needs)) else {
-        return Err(Unasked::Memory);
-    };
-    let param_env = environment_of(&mut ctx.interner, terms, assumed)?;
+    let lhs = type_of(terms, lhs)?;
+    let rhs = type_of(terms, rhs)?;
+    let lhs_named = named_in(&ctx.interner, &lhs);
+    let rhs_named = named_in(&ctx.interner, &rhs);
+    let param_env = environment_for(ctx, terms, assumed, lhs_named, rhs_named)?;
+    may_ask(&*ctx, &lhs, relation, &rhs)?;
     let span = ctx.interner.dummy_span();
     Ok(relate(ctx, param_env, lhs, relation, rhs, span))
 }
@@ -291,9 +291,7 @@ fn ask_infers<I: Interner>(cx: &I, terms: &Ready<I>, number: usize) -> Result<bo
 fn ask_rigid<I: Interner>(cx: &I, terms: &Ready<I>, number: usize) -> Result<bool, Unasked>
     requires { AllReady (I.meaning cx.now) terms.now }
 {
-    let Some((ty, _)) = type_of(terms, number) else {
-        return Err(Unasked::Memory);
-    };
+    let ty = type_of(terms, number)?;
     Ok(is_known_rigid(cx, &ty))
 }
 

@@ -46,12 +46,8 @@ pub(super) fn ask_may_unify<I: Interner>(
 ) -> Result<bool, Unasked>
     requires { AllReady (I.meaning cx.now) terms.now }
 {
-    let Some((lhs, _)) = type_of(terms, lhs) else {
-        return Err(Unasked::Memory);
-    };
-    let Some((rhs, _)) = type_of(terms, rhs) else {
-        return Err(Unasked::Memory);
-    };
+    let lhs = type_of(terms, lhs)?;
+    let rhs = type_of(terms, rhs)?;
     Ok(match params {
         SideParams::RigidRigid => {
             let test = DeepRejectCtxt::<I, false, false>::relate_rigid_rigid(cx);
@@ -82,8 +78,8 @@ pub(super) fn ask_args_may_unify<I: Interner>(
     ensures lawful { IsLawful (I.meaning ctx.new.interner) ctx.new.inner }
     ensures grown { Extends (I.meaning ctx.old.interner) (I.meaning ctx.new.interner) }
 {
-    let (lhs, _) = args_of(ctx, terms, lhs)?;
-    let (rhs, _) = args_of(ctx, terms, rhs)?;
+    let lhs = args_of(ctx, terms, lhs)?;
+    let rhs = args_of(ctx, terms, rhs)?;
     let cx = &ctx.interner;
     Ok(match params {
         SideParams::RigidRigid => {
@@ -110,9 +106,7 @@ pub(super) fn ask_key<I: Interner>(
 ) -> Result<KeyOf<I>, Unasked>
     requires { AllReady (I.meaning cx.now) terms.now }
 {
-    let Some((ty, _)) = type_of(terms, number) else {
-        return Err(Unasked::Memory);
-    };
+    let ty = type_of(terms, number)?;
     let treat_params = match params {
         KeyParams::Infer => TreatParams::InstantiateWithInfer,
         KeyParams::Rigid => TreatParams::AsRigid,

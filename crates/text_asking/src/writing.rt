@@ -121,7 +121,7 @@ fn write_outcome<I: Interner, W: Write>(
 {
     match outcome {
         Err(Unasked::Memory) => out.write_str("memory"),
-        Err(Unasked::NotAsked(why)) => write_not_asked(*why, out),
+        Err(Unasked::NotAsked(why)) => write_not_asked(*why, ctx.inner.universe.0, out),
         Err(Unasked::Impls(why)) => write_why_not(*why, out),
         Ok(answer) => write_given(ctx, texts, asked, answer, out),
     }
