@@ -3,18 +3,17 @@ ghost use Rattle.std.specs.Prelude.{◌≡◌, IsTrue, IfOk};
 ghost use Rattle.relation_terms.specs.Trees.{known, count};
 ghost use Rattle.relation_terms.specs.Meaning.{Extends};
 ghost use Rattle.variable_tables.specs.Tables.{IsLawful};
-ghost use Rattle.text_asking.specs.Asking.{AllReady, KnowsRelated};
+ghost use Rattle.text_asking.specs.Asking.{AllReady, KnowsAnswer, KnowsRelated};
 
 use crate::context::{NotAsked, may_ask, relate};
 use crate::environment::environment_for;
-use crate::question::{Ready, Unasked, terms_of};
+use crate::question::{Answer, Outcome, Ready, Unasked, terms_of};
 use may_relate::named_in;
 use relation_reference::context::RefCtxt;
 use relation_terms::terms::parts::member_count;
 use relation_terms::terms::{GenericArgs, Interner, Parts as PartsOfTerm, Variance};
 use text_reading::naming::Parts;
 use text_reading::reading::Relation;
-use type_relations::relate::solver_relating::RelateGoals;
 
 // The arguments of a list of terms.
 pub(super) fn args_of<I: Interner>(
@@ -51,14 +50,15 @@ fn relate_args<I: Interner>(
     assumed: Parts,
     lhs: GenericArgs<I>,
     rhs: GenericArgs<I>,
-) -> Result<RelateGoals<I>, Unasked>
+) -> Outcome<I>
     requires lawful { IsLawful (I.meaning ctx.old.interner) ctx.old.inner }
     requires ready { AllReady (I.meaning ctx.old.interner) terms.now }
     requires lhs_known { IsTrue (known ((I.meaning ctx.old.interner).args lhs)) }
     requires rhs_known { IsTrue (known ((I.meaning ctx.old.interner).args rhs)) }
     ensures lawful { IsLawful (I.meaning ctx.new.interner) ctx.new.inner }
     ensures grown { Extends (I.meaning ctx.old.interner) (I.meaning ctx.new.interner) }
-    ensures known { IfOk result (KnowsRelated (I.meaning ctx.new.interner)) }
+    ensures known { let m = I.meaning ctx.new.interner in
+        IfOk result (KnowsAnswer m (KnowsRelated m)) }
 {
     if !are_as_many(&ctx.interner, &lhs, &rhs) {
         return Err(Unasked::NotAsked(NotAsked::Lengths));
@@ -69,7 +69,8 @@ fn relate_args<I: Interner>(
     let param_env = environment_for(ctx, terms, assumed, lhs_named, rhs_named)?;
     may_ask(&*ctx, &lhs, relation, &rhs)?;
     let span = ctx.interner.dummy_span();
-    Ok(relate(ctx, param_env, lhs, relation, rhs, span))
+    let related = relate(ctx, param_env, lhs, relation, rhs, span);
+    Ok(Answer::Related(related))
 }
 
 // Relates two lists of arguments in a context where that is assumed.
@@ -79,12 +80,13 @@ pub(super) fn ask_args_related<I: Interner>(
     assumed: Parts,
     lhs: Parts,
     rhs: Parts,
-) -> Result<RelateGoals<I>, Unasked>
+) -> Outcome<I>
     requires lawful { IsLawful (I.meaning ctx.old.interner) ctx.old.inner }
     requires ready { AllReady (I.meaning ctx.old.interner) terms.now }
     ensures lawful { IsLawful (I.meaning ctx.new.interner) ctx.new.inner }
     ensures grown { Extends (I.meaning ctx.old.interner) (I.meaning ctx.new.interner) }
-    ensures known { IfOk result (KnowsRelated (I.meaning ctx.new.interner)) }
+    ensures known { let m = I.meaning ctx.new.interner in
+        IfOk result (KnowsAnswer m (KnowsRelated m)) }
 {
     let lhs = args_of(ctx, terms, lhs)?;
     let rhs = args_of(ctx, terms, rhs)?;

@@ -156,12 +156,13 @@ fn ask_related<I: Interner>(
     lhs: usize,
     relation: Relation,
     rhs: usize,
-) -> Result<RelateGoals<I>, Unasked>
+) -> Outcome<I>
     requires lawful { IsLawful (I.meaning ctx.old.interner) ctx.old.inner }
     requires ready { AllReady (I.meaning ctx.old.interner) terms.now }
     ensures lawful { IsLawful (I.meaning ctx.new.interner) ctx.new.inner }
     ensures grown { Extends (I.meaning ctx.old.interner) (I.meaning ctx.new.interner) }
-    ensures known { IfOk result (KnowsRelated (I.meaning ctx.new.interner)) }
+    ensures known { let m = I.meaning ctx.new.interner in
+        IfOk result (KnowsAnswer m (KnowsRelated m)) }
 {
     let lhs = type_of(terms, lhs)?;
     let rhs = type_of(terms, rhs)?;
@@ -170,7 +171,8 @@ fn ask_related<I: Interner>(
     let param_env = environment_for(ctx, terms, assumed, lhs_named, rhs_named)?;
     may_ask(&*ctx, &lhs, relation, &rhs)?;
     let span = ctx.interner.dummy_span();
-    Ok(relate(ctx, param_env, lhs, relation, rhs, span))
+    let related = relate(ctx, param_env, lhs, relation, rhs, span);
+    Ok(Answer::Related(related))
 }
 
 // The term of that number.
@@ -219,15 +221,16 @@ fn ask_visited<I: Interner>(
     term: usize,
     skip: Parts,
     stop: Parts,
-) -> Result<Met<I::Key>, Unasked>
+) -> Outcome<I>
     requires { AllReady (I.meaning cx.now) terms.now }
-    ensures { IfOk result (λ met. AllKnown (I.meaning cx.now) met.terms.items) }
+    ensures { let m = I.meaning cx.now in
+        IfOk result (KnowsAnswer m (KnowsRelated m)) }
 {
     let term = term_of(terms, term)?;
     let skip = terms_of(cx.alloc(), terms, skip)?;
     let stop = terms_of(cx.alloc(), terms, stop)?;
     match visit(cx, &term, &skip, &stop) {
-        Some(met) => Ok(met),
+        Some(met) => Ok(Answer::Met(met)),
         None => Err(Unasked::Memory),
     }
 }
@@ -238,16 +241,15 @@ fn ask_walked<I: SizedKeys>(
     terms: &Ready<I>,
     term: usize,
     skips: Parts,
-) -> Result<Vec<GenericArg<I>>, Unasked>
+) -> Outcome<I>
     requires { AllReady (I.meaning cx.now) terms.now }
-    ensures { IfOk result (λ yielded. AllKnown (I.meaning cx.now) yielded.items) }
+    ensures { let m = I.meaning cx.now in
+        IfOk result (KnowsAnswer m (KnowsRelated m)) }
 {
     let term = term_of(terms, term)?;
     let skips = numbers_at(terms.skips, skips);
-    match cx.walk(&term, skips) {
-        Ok(yielded) => Ok(yielded),
-        Err(_) => Err(Unasked::Memory),
-    }
+    let yielded = cx.walk(&term, skips)?;
+    Ok(Answer::Walked(yielded))
 }
 
 // Folds a term.
@@ -256,17 +258,18 @@ fn ask_folded<I: Interner>(
     terms: &Ready<I>,
     term: usize,
     puts: Parts,
-) -> Result<GenericArg<I>, Unasked>
+) -> Outcome<I>
     requires lawful { IsLawful (I.meaning ctx.old.interner) ctx.old.inner }
     requires ready { AllReady (I.meaning ctx.old.interner) terms.now }
     ensures lawful { IsLawful (I.meaning ctx.new.interner) ctx.new.inner }
     ensures grown { Extends (I.meaning ctx.old.interner) (I.meaning ctx.new.interner) }
-    ensures sure { IfOk result (λ key. IsTrue (known (arg_tree (I.meaning ctx.new.interner) key))) }
+    ensures known { let m = I.meaning ctx.new.interner in
+        IfOk result (KnowsAnswer m (KnowsRelated m)) }
 {
     let term = term_of(terms, term)?;
     let puts = puts_of(ctx.interner.alloc(), terms, puts)?;
     match fold(&mut ctx.interner, &term, &puts) {
-        Ok(folded) => Ok(folded),
+        Ok(folded) => Ok(Answer::Folded(folded)),
         Err(_) => Err(Unasked::Memory),
     }
 }
@@ -317,33 +320,19 @@ fn ask<I: SizedKeys>(ctx: &mut RefCtxt<I>, terms: &Ready<I>, question: &Question
 {
     match question.kind {
         QuestionKind::Relate { lhs, relation, rhs } => {
-            let related = ask_related(ctx, terms, question.assumed, lhs, relation, rhs)?;
-            Ok(Answer::Related(related))
+            ask_related(ctx, terms, question.assumed, lhs, relation, rhs)
         }
         QuestionKind::Visit { term, skip, stop } => {
-            let met = ask_visited(&ctx.interner, terms, term, skip, stop)?;
-            Ok(Answer::Met(met))
+            ask_visited(&ctx.interner, terms, term, skip, stop)
         }
-        QuestionKind::Walk { term, skips } => {
-            let yielded = ask_walked(&ctx.interner, terms, term, skips)?;
-            Ok(Answer::Walked(yielded))
-        }
-        QuestionKind::Components(number) => {
-            let found = ask_components(&ctx.interner, terms, number)?;
-            Ok(Answer::Components(found))
-        }
+        QuestionKind::Walk { term, skips } => ask_walked(&ctx.interner, terms, term, skips),
+        QuestionKind::Components(number) => ask_components(&ctx.interner, terms, number),
         QuestionKind::Assumptions {
             terms: list,
             regions,
-        } => {
-            let all = ask_assumptions(ctx, terms, list, regions)?;
-            Ok(Answer::Assumed(all))
-        }
-        QuestionKind::Fold { term, puts } => {
-            let folded = ask_folded(ctx, terms, term, puts)?;
-            Ok(Answer::Folded(folded))
-        }
-        QuestionKind::Escapes(number) => { whether::<I>(ask_escapes(&ctx.interner, terms, number)) }
+        } => ask_assumptions(ctx, terms, list, regions),
+        QuestionKind::Fold { term, puts } => ask_folded(ctx, terms, term, puts),
+        QuestionKind::Escapes(number) => whether::<I>(ask_escapes(&ctx.interner, terms, number)),
         QuestionKind::Infers(number) => whether::<I>(ask_infers(&ctx.interner, terms, number)),
         QuestionKind::Rigid(number) => whether::<I>(ask_rigid(&ctx.interner, terms, number)),
         QuestionKind::MayUnify {
@@ -359,13 +348,9 @@ fn ask<I: SizedKeys>(ctx: &mut RefCtxt<I>, terms: &Ready<I>, question: &Question
             whether::<I>(ask_args_may_unify(ctx, terms, params, lhs, rhs))
         }
         QuestionKind::RelateArgs { lhs, rhs } => {
-            let related = ask_args_related(ctx, terms, question.assumed, lhs, rhs)?;
-            Ok(Answer::Related(related))
+            ask_args_related(ctx, terms, question.assumed, lhs, rhs)
         }
-        QuestionKind::Key { params, ty } => {
-            let key = ask_key(&ctx.interner, terms, params, ty)?;
-            Ok(Answer::Key(key))
-        }
+        QuestionKind::Key { params, ty } => ask_key(&ctx.interner, terms, params, ty),
         QuestionKind::Elaborate {
             clauses,
             only_self,
@@ -379,29 +364,15 @@ fn ask<I: SizedKeys>(ctx: &mut RefCtxt<I>, terms: &Ready<I>, question: &Question
                 limit: told(limit),
                 pulls: told(pulls),
             };
-            let all = ask_elaborated(ctx, terms, clauses, &manner)?;
-            Ok(Answer::Pulls(all))
+            ask_elaborated(ctx, terms, clauses, &manner)
         }
-        QuestionKind::Supertraits { clause, limit } => {
-            let all = ask_supertraits(ctx, terms, clause, limit)?;
-            Ok(Answer::Pulls(all))
-        }
-        QuestionKind::SupertraitIds(item) => {
-            let all = ask_supertrait_ids(&ctx.interner, terms, item)?;
-            Ok(Answer::Pulls(all))
-        }
+        QuestionKind::Supertraits { clause, limit } => ask_supertraits(ctx, terms, clause, limit),
+        QuestionKind::SupertraitIds(item) => ask_supertrait_ids(&ctx.interner, terms, item),
         QuestionKind::Overlap { left, right } => {
-            let told = ask_impls_overlap(ctx, terms, question.assumed, left, right)?;
-            Ok(Answer::Overlap(told.0, told.1))
+            ask_impls_overlap(ctx, terms, question.assumed, left, right)
         }
-        QuestionKind::Methods { methods, of } => {
-            let names = ask_methods(ctx, terms, methods, of)?;
-            Ok(Answer::Methods(names))
-        }
-        QuestionKind::Solve { longer, shorter } => {
-            let solved = ask_regions(ctx, terms, longer, shorter)?;
-            Ok(Answer::Solved(solved))
-        }
+        QuestionKind::Methods { methods, of } => ask_methods(ctx, terms, methods, of),
+        QuestionKind::Solve { longer, shorter } => ask_regions(ctx, terms, longer, shorter),
         QuestionKind::One(first, second) => whether::<I>(ask_one(ctx, first, second)),
         QuestionKind::Binding(variable) => {
             let bound = ask_binding(ctx, variable)?;
