@@ -8,11 +8,9 @@ mod coherence;
 mod comparing;
 mod context;
 mod counts;
-mod depth;
 mod elaborating;
 mod environment;
 mod folding;
-mod growth;
 mod interner;
 mod lists;
 mod outliving;
@@ -28,16 +26,16 @@ mod walking;
 mod writing;
 
 use answer_text::AnswerText;
-use depth::{Counts, Depths};
-use growth::Growths;
 use interner::state;
-use question::{Ready, ask_unless, context_for};
+use question::{Ready, ask_unless, context_for, why_not_held};
 use reference_interner::RefInterner;
 use relation_reference::context::RefCtxt;
 use relation_semantics::infer_ctxt::TypingMode;
 use sized_keys::SizedKeys;
 use std::alloc::{AllocError, Global};
 use std::fmt::{self, Write};
+use text_depths::{Counts, Depths, Growths};
+use text_elaboration::pulls::LIMIT;
 use text_reading::naming::Program;
 use text_terms::building::build;
 use text_terms::printing::TextsOf;
@@ -62,7 +60,7 @@ impl Kept {
     fn new(alloc: Global, program: &Program) -> Result<Kept, AllocError> {
         let text = AnswerText::new(alloc)?;
         let depths = Depths::new(alloc, program)?;
-        let growths = Growths::new(alloc, program)?;
+        let growths = Growths::new(alloc, program, LIMIT)?;
         Ok(Kept {
             text,
             depths,
@@ -99,7 +97,7 @@ fn ask_ready<I: SizedKeys + Drop, W: Write>(
             types: asked.inner.types.len(),
             consts: asked.inner.consts.len(),
         };
-        let why_not = kept.depths.refusal(program, question, counts);
+        let why_not = why_not_held(kept.depths.take_up(program, question, counts));
         let bounded = kept.growths.bounded(program, question);
         let (left, outcome) = ask_unless(asked, terms, &bounded.question, why_not);
         ctx = left;

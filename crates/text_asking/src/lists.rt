@@ -69,8 +69,7 @@ fn relate_args<I: Interner>(
     let param_env = environment_for(ctx, terms, assumed, lhs_named, rhs_named)?;
     may_ask(&*ctx, &lhs, relation, &rhs)?;
     let span = ctx.interner.dummy_span();
-    let related = relate(ctx, param_env, lhs, relation, rhs, span);
-    Ok(Answer::Related(related))
+    Ok(Answer::Related(relate(ctx, param_env, lhs, relation, rhs, span)))
 }
 
 // Relates two lists of arguments in a context where that is assumed.

@@ -32,7 +32,7 @@ use relation_terms::terms::{
     GenericArg, GenericArgKind, Interner, Keys, LocalDefIds, OutOfMemory, TraitId, Ty,
 };
 use relation_tools::outlives::Component;
-use std::alloc::Global;
+use std::alloc::{AllocError, Global};
 use text_coherence::overlapping::WhyNot;
 use text_elaboration::pulls::{Manner, Pulled};
 use text_reading::naming::{Clause, Method, Parts, Put, Question, QuestionKind, Variables};
@@ -114,6 +114,15 @@ pub(super) type AnswerOf<I> = Answer<
 // What came of a question.
 pub(super) type Outcome<I> = Result<AnswerOf<I>, Unasked>;
 
+// Why a question is not asked, by whether the stack holds what it comes to.
+pub(super) fn why_not_held(held: Result<bool, AllocError>) -> Option<Unasked> {
+    match held {
+        Ok(true) => None,
+        Ok(false) => Some(Unasked::NotAsked(NotAsked::Depth)),
+        Err(_) => Some(Unasked::Memory),
+    }
+}
+
 // How many instantiations a new context of a question may make.
 pub(super) fn budget_of(question: &Question) -> usize {
     question.budget.unwrap_or(BUDGET)
@@ -171,8 +180,7 @@ fn ask_related<I: Interner>(
     let param_env = environment_for(ctx, terms, assumed, lhs_named, rhs_named)?;
     may_ask(&*ctx, &lhs, relation, &rhs)?;
     let span = ctx.interner.dummy_span();
-    let related = relate(ctx, param_env, lhs, relation, rhs, span);
-    Ok(Answer::Related(related))
+    Ok(Answer::Related(relate(ctx, param_env, lhs, relation, rhs, span)))
 }
 
 // The term of that number.

@@ -2,7 +2,6 @@
 
 use crate::depth::{MOST, NO_PARTS, Numbers, push_numbers, push_parts};
 use std::alloc::{AllocError, Global};
-use text_elaboration::pulls::LIMIT;
 use text_reading::naming::{Parts, Program, Question, QuestionKind, Says, Stated, Term};
 
 // Whether a parameter is put in its place where what a trait states is used.
@@ -117,8 +116,8 @@ struct Elaboration {
     pulls: usize,
 }
 
-// The elaboration that is asked for.
-fn elaboration_of(kind: &QuestionKind) -> Option<Elaboration> {
+// The elaboration that is asked for, with that limit where none is said.
+fn elaboration_of(kind: &QuestionKind, most: usize) -> Option<Elaboration> {
     match kind {
         QuestionKind::Elaborate {
             clauses,
@@ -127,7 +126,7 @@ fn elaboration_of(kind: &QuestionKind) -> Option<Elaboration> {
             ..
         } => Some(Elaboration {
             given: *clauses,
-            limit: limit.unwrap_or(LIMIT),
+            limit: limit.unwrap_or(most),
             pulls: pulls.unwrap_or(usize::MAX),
         }),
         QuestionKind::Supertraits { clause, limit } => Some(Elaboration {
@@ -135,7 +134,7 @@ fn elaboration_of(kind: &QuestionKind) -> Option<Elaboration> {
                 first: *clause,
                 behind: clause.saturating_add(1),
             },
-            limit: limit.unwrap_or(LIMIT),
+            limit: limit.unwrap_or(most),
             pulls: usize::MAX,
         }),
         _ => None,
@@ -166,7 +165,7 @@ fn with_limit(kind: QuestionKind, most: usize) -> QuestionKind {
 
 /// A question as it is asked.
 #[derive(Drop)]
-pub(super) struct Bounded {
+pub struct Bounded {
     pub question: Question,
     /// Whether its limit is lower than it says: where that is met, what follows may be too deep for the stack.
     pub lowered: bool,
@@ -174,19 +173,21 @@ pub(super) struct Bounded {
 
 /// By how many levels what follows from each trait may be deeper at a step of an elaboration, by the numbers of items.
 #[derive(Drop)]
-pub(super) struct Growths {
+pub struct Growths {
     growths: Vec<usize>,
+    // How many different predicates an elaboration may meet where nothing is said of it.
+    most: usize,
 }
 
 impl Growths {
-    /// Of the traits of a program.
+    /// Of the traits of a program. An elaboration may meet so many different predicates where nothing is said of it.
     ///
     /// # Errors
     /// `AllocError` where a growth was refused.
-    pub(super) fn new(alloc: Global, program: &Program) -> Result<Growths, AllocError> {
+    pub fn new(alloc: Global, program: &Program, most: usize) -> Result<Growths, AllocError> {
         let mut growths = Vec::new(alloc);
         if program.stated.is_empty() {
-            return Ok(Growths { growths });
+            return Ok(Growths { growths, most });
         }
         for _ in &program.items {
             growths.push(0)?;
@@ -199,16 +200,16 @@ impl Growths {
         // A trait leads to each other one in fewer steps than there are items.
         for _ in &program.items {
             if !spread(program, &mut growths) {
-                return Ok(Growths { growths });
+                return Ok(Growths { growths, most });
             }
         }
-        Ok(Growths { growths })
+        Ok(Growths { growths, most })
     }
 
     // How many different predicates an elaboration may meet, where it may meet others behind these that are too deep.
     // Each that is not given is deeper by the growth at most than one before it.
     fn most(&self, program: &Program, kind: &QuestionKind) -> Option<usize> {
-        let asked = elaboration_of(kind)?;
+        let asked = elaboration_of(kind, self.most)?;
         let growth = growth_from(program, &self.growths, asked.given);
         if growth == 0 || asked.limit.min(asked.pulls).saturating_mul(growth) <= MOST {
             return None;
@@ -219,7 +220,7 @@ impl Growths {
     }
 
     /// A question as it is asked, so that what follows from predicates is not too deep.
-    pub(super) fn bounded(&self, program: &Program, question: &Question) -> Bounded {
+    pub fn bounded(&self, program: &Program, question: &Question) -> Bounded {
         let mut bounded = Bounded {
             question: *question,
             lowered: false,

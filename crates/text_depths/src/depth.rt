@@ -1,7 +1,5 @@
 //! How deep what a question comes to may be, so that the stack holds it.
 
-use crate::context::NotAsked;
-use crate::question::Unasked;
 use std::alloc::{AllocError, Global};
 use text_reading::naming::{
     Parts, Program, Question, QuestionKind, Says, Term, VariableId, VariableKind,
@@ -193,7 +191,7 @@ impl Search {
 
 /// So many variables for types and for constants.
 #[derive(Clone, Copy)]
-pub(super) struct Counts {
+pub struct Counts {
     pub types: usize,
     pub consts: usize,
 }
@@ -320,7 +318,7 @@ const NOTHING: Found = Found {
 
 /// How deep the terms of the context may be that was left.
 #[derive(Drop)]
-pub(super) struct Depths {
+pub struct Depths {
     alloc: Global,
     open: Vec<bool>,
     search: Search,
@@ -335,7 +333,7 @@ impl Depths {
     ///
     /// # Errors
     /// `AllocError` where a growth was refused.
-    pub(super) fn new(alloc: Global, program: &Program) -> Result<Depths, AllocError> {
+    pub fn new(alloc: Global, program: &Program) -> Result<Depths, AllocError> {
         // Only where terms are related is it asked what is open.
         let open = if relates(program) {
             open_terms(alloc, program)?
@@ -404,10 +402,14 @@ impl Depths {
         Ok(found)
     }
 
-    // Takes up a question, and answers whether it may be asked. What was instantiated is a copy: where a variable is
-    // named that was made with one, the copy and what it is a copy of may stand in one chain. A variable that is made
-    // since a question names it stands in none.
-    fn take_up(
+    /// Takes up a question, of whose context it is said how many variables it has, and answers whether it may be asked,
+    /// or may come to what is too deep. What was instantiated is a copy: where a variable is named that was made with
+    /// one, the copy and what it is a copy of may stand in one chain. A variable that is made since a question names it
+    /// stands in none.
+    ///
+    /// # Errors
+    /// `AllocError` where a growth was refused.
+    pub fn take_up(
         &mut self,
         program: &Program,
         question: &Question,
@@ -442,19 +444,5 @@ impl Depths {
         self.types.before = self.types.before.max(named.types);
         self.consts.before = self.consts.before.max(named.consts);
         Ok(true)
-    }
-
-    /// Why a question is not asked, if what it comes to may be too deep. It is given how many variables its context has.
-    pub(super) fn refusal(
-        &mut self,
-        program: &Program,
-        question: &Question,
-        made: Counts,
-    ) -> Option<Unasked> {
-        match self.take_up(program, question, made) {
-            Ok(true) => None,
-            Ok(false) => Some(Unasked::NotAsked(NotAsked::Depth)),
-            Err(_) => Some(Unasked::Memory),
-        }
     }
 }
