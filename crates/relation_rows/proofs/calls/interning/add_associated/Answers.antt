@@ -1,7 +1,7 @@
 use Rattle.reference_interner.specs.Adding.{meaning_in}
 use Rattle.reference_interner.specs.Nodes.{meaning_of}
 use Rattle.relation_rows.proofs.Arguments.{is_some}
-use Rattle.relation_rows.proofs.calls.add_associated.Goals as goal
+use Rattle.relation_rows.proofs.calls.interning.add_associated.Goals as goal
 
 pub returns : goal.returns
 unfolding meaning_of
