@@ -6,10 +6,10 @@ ghost use Rattle.variable_tables.specs.Tables.{IsLawful};
 ghost use Rattle.text_asking.specs.Asking.{AllReady};
 ghost use Rattle.text_asking.specs.Environments.{MakesEnvironment};
 
-use crate::context::have_named;
+use crate::context::{NotAsked, have_named};
 use crate::elaborating::clauses_of;
 use crate::question::{Ready, Unasked};
-use may_relate::Named;
+use may_relate::{Named, Unfit};
 use relation_reference::context::RefCtxt;
 use relation_terms::terms::{Interner, ParamEnv};
 use std::fmt::{self, Write};
@@ -36,7 +36,8 @@ pub(super) fn environment_of<I: Interner>(
     Ok(param_env)
 }
 
-// The environment of what is assumed, in a context that has the variables which two terms name.
+// The environment of what is assumed, in a context that has the variables which two terms name. None is made where they
+// name a later universe: they may not be asked about.
 #[tactic(auto, using(relation_terms::proofs::Stays::extends_on))]
 pub(super) fn environment_for<I: Interner>(
     ctx: &mut RefCtxt<I>,
@@ -51,6 +52,11 @@ pub(super) fn environment_for<I: Interner>(
     ensures grown { Extends (I.meaning ctx.old.interner) (I.meaning ctx.new.interner) }
     ensures sure { IfOk result (λ k. IsTrue (known ((I.meaning ctx.new.interner).param_env k))) }
 {
+    let latest = lhs.universe.max(rhs.universe);
+    if ctx.inner.universe.0 < latest.0 {
+        let unfit = Unfit::LaterUniverse(latest);
+        return Err(Unasked::NotAsked(NotAsked::Unfit(unfit)));
+    }
     have_named(ctx, lhs)?;
     have_named(ctx, rhs)?;
     environment_of(&mut ctx.interner, terms, assumed)
