@@ -118,11 +118,7 @@ pub(super) fn ask_supertraits<I: Interner>(
 }
 
 // The same of a trait of a program.
-pub(super) fn ask_supertrait_ids<I: Interner>(
-    cx: &I,
-    terms: &Ready<I>,
-    item: usize,
-) -> Outcome<I>
+pub(super) fn ask_supertrait_ids<I: Interner>(cx: &I, terms: &Ready<I>, item: usize) -> Outcome<I>
     ensures { (m : Meaning I.Key I.Id I.Name) → IfOk result (KnowsAnswer m (KnowsRelated m)) }
 {
     let Some(id) = terms.ids.get(item) else {

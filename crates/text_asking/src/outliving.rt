@@ -30,11 +30,7 @@ use text_terms::printing::{
 const BETWEEN: &str = " | ";
 
 // The components of a type.
-pub(super) fn ask_components<I: SizedKeys>(
-    cx: &I,
-    terms: &Ready<I>,
-    number: usize,
-) -> Outcome<I>
+pub(super) fn ask_components<I: SizedKeys>(cx: &I, terms: &Ready<I>, number: usize) -> Outcome<I>
     requires { AllReady (I.meaning cx.now) terms.now }
     ensures { let m = I.meaning cx.now in
         IfOk result (KnowsAnswer m (KnowsRelated m)) }

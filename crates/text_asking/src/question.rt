@@ -244,12 +244,7 @@ fn ask_visited<I: Interner>(
 }
 
 // Walks a term.
-fn ask_walked<I: SizedKeys>(
-    cx: &I,
-    terms: &Ready<I>,
-    term: usize,
-    skips: Parts,
-) -> Outcome<I>
+fn ask_walked<I: SizedKeys>(cx: &I, terms: &Ready<I>, term: usize, skips: Parts) -> Outcome<I>
     requires { AllReady (I.meaning cx.now) terms.now }
     ensures { let m = I.meaning cx.now in
         IfOk result (KnowsAnswer m (KnowsRelated m)) }
