@@ -1,20 +1,20 @@
-//! The reference interner with a program's items.
+//! The reference interner with a program's items, and with what its traits state.
 
+use crate::stating::state_all;
 use reference_interner::{
     DefKind, GenericParam, GenericParamKind, ItemId, ItemKind, RefInterner, SymbolId,
 };
 use relation_terms::terms::{Interner, OutOfMemory, TraitId, Variance};
 use std::alloc::{AllocError, Global};
 use std::collections::HashMap;
-use text_elaboration::stating::state_all;
 use text_reading::naming::{Declared, Item, ParamSort, Program};
 use text_reading::reading::ItemSort;
 use text_terms::printing::{ItemText, ItemTexts, NameTexts, Texts, TraitText};
 
-// A program in the reference interner: the ids of its items, its names by their numbers, and the texts of both; and
-// whether each predicate that a trait states binds its variables itself.
+/// A program in the reference interner: the ids of its items, its names by their numbers, and the texts of both; and
+/// whether each predicate that a trait states binds its variables itself.
 #[derive(Drop)]
-pub(super) struct Stated<'a> {
+pub struct Stated<'a> {
     pub ids: Vec<ItemId>,
     pub names: Vec<SymbolId>,
     pub texts: Texts<'a, ItemId, SymbolId>,
@@ -139,11 +139,11 @@ fn item_texts<'a>(
     Ok(texts)
 }
 
-// Adds the items of a program to a new interner, and lets its traits state what it says.
-pub(super) fn state<'a>(
-    cx: &mut RefInterner,
-    program: &Program<'a>,
-) -> Result<Stated<'a>, OutOfMemory> {
+/// Adds the items of a program to a new interner, and lets its traits state what it says, as `state_all` tells.
+///
+/// # Errors
+/// `OutOfMemory` where a growth was refused.
+pub fn state<'a>(cx: &mut RefInterner, program: &Program<'a>) -> Result<Stated<'a>, OutOfMemory> {
     let alloc = cx.alloc();
     let ids = add_items(cx, program)?;
     let names: Vec<SymbolId> = (0..program.names.len()).map(SymbolId).collect(alloc)?;
