@@ -1,4 +1,5 @@
 pub mod AskingLemmas
+pub mod RelatedLemmas
 pub mod Counting
 pub mod Recorded
 pub mod MeetLemmas

@@ -1,20 +1,22 @@
 //! A question's context, and relating in it.
-ghost use Rattle.std.specs.Prelude.{◌≡◌, ℕ, suc, ◌<◌, ◌≤◌, max, IfNone, IfOk, OnOk};
+ghost use Rattle.std.specs.Prelude.{◌≡◌, ◌≢◌, ℕ, suc, ◌<◌, ◌≤◌, max, IsTrue, IfOk, OnOk};
+ghost use Rattle.std.specs.List.{All};
+ghost use Rattle.term_enums.specs.declared.Variance.TheVariants.{Bivariant};
 ghost use Rattle.relation_terms.specs.Heads.{VarKind};
+ghost use Rattle.relation_terms.specs.Trees.{known};
 ghost use Rattle.relation_terms.specs.Meaning.{Extends};
 ghost use Rattle.context_relation.specs.Relating.{TaintsForError};
 ghost use Rattle.type_relations.specs.Contract.{CanRelate, RelatesBoth, LosesNone, FaultIsTrue, AsksOnly, LeavesRest};
+ghost use Rattle.may_relate.specs.Fitting.{MayBeRelated};
 ghost use Rattle.variable_tables.specs.Tables.{IsLawful};
-ghost use Rattle.text_needs.specs.Needs.{Reaches};
-ghost use Rattle.std.specs.List.{All};
-ghost use Rattle.text_asking.specs.Asking.{Has, HasNamed, HasStated, IsAskable, IsSetUp, MakesIn};
+ghost use Rattle.text_asking.specs.Asking.{HasNamed, HasStated, IsSetUp, MakesIn, Reaches};
 ghost use Rattle.text_asking.specs.Asking.{aliases_of, typing_mode, var_kind, variables_in, variance_of};
 
+use may_relate::{HasVariables, Named, Relatable, Unfit, may_relate};
 use relation_reference::context::RefCtxt;
 use relation_semantics::infer_ctxt::{InferCtxtLike, TypingMode};
 use relation_terms::terms::{Interner, LocalDefIds, OutOfMemory, ParamEnv, Span, Variance};
 use std::fmt::{self, Write};
-use text_needs::needs::Needs;
 use text_reading::naming::{Mode, Setup, VariableId, VariableKind, Variables};
 use text_reading::reading::Relation;
 use type_relations::relate::Relate;
@@ -23,12 +25,8 @@ use type_relations::relate::solver_relating::{RelateExt, RelateGoals};
 /// Why a question is not asked.
 #[derive(Clone, Copy)]
 pub enum NotAsked {
-    /// A binder outside the terms binds what stands in them.
-    Escapes,
-    /// A binder in the terms does not bind by its list.
-    Lists,
-    /// The context's universe, which is this one, does not name a placeholder.
-    Universe(usize),
+    /// One of the terms may not be related in the context.
+    Unfit(Unfit),
     /// Nothing is asked at this variance.
     Variance,
     /// Lists of arguments are related that have as many.
@@ -37,6 +35,12 @@ pub enum NotAsked {
     Depth,
     /// It is stated of regions what can't be known of them.
     Facts,
+}
+
+impl From<Unfit> for NotAsked {
+    fn from(unfit: Unfit) -> NotAsked {
+        NotAsked::Unfit(unfit)
+    }
 }
 
 // The typing mode of that name, in which no opaque types are defined.
@@ -73,6 +77,15 @@ pub(super) fn renewed<I: Interner>(
     let mode = typing_mode::<I>(setup.mode, no_ids);
     ctx.renewed(mode, setup.next_solver, budget)
 }
+
+// All kinds of variables.
+const KINDS: [VariableKind; 5] = [
+    VariableKind::Ty,
+    VariableKind::Int,
+    VariableKind::Float,
+    VariableKind::Const,
+    VariableKind::Region,
+];
 
 // How many variables of a kind the context has.
 fn variables_count<I: Interner>(ctx: &RefCtxt<I>, kind: VariableKind) -> usize
@@ -215,22 +228,27 @@ pub(super) fn have_all_stated<I: Interner>(
     Ok(())
 }
 
-// Makes variables until the context has what is needed.
-pub(super) fn have_variables<I: Interner>(
-    ctx: &mut RefCtxt<I>,
-    needs: Needs,
-) -> Result<(), OutOfMemory>
-    requires lawful { IsLawful (I.meaning ctx.old.interner) ctx.old.inner }
-    requires universe { needs.universe ≤ ctx.old.inner.universe.0 }
+// The largest variable of a kind that is named, if one is.
+fn largest(named: Named, kind: VariableKind) -> Option<usize> {
+    match kind {
+        VariableKind::Ty => Some(named.ty_var?.0),
+        VariableKind::Int => Some(named.int_var?.0),
+        VariableKind::Float => Some(named.float_var?.0),
+        VariableKind::Const => Some(named.const_var?.0),
+        VariableKind::Region => Some(named.region_var?.0),
+    }
+}
+
+// Makes variables until the context has those that are named.
+pub(super) fn have_named<I: Interner>(ctx: &mut RefCtxt<I>, named: Named) -> Result<(), OutOfMemory>
+    requires { IsLawful (I.meaning ctx.old.interner) ctx.old.inner }
     ensures lawful { IsLawful (I.meaning ctx.new.interner) ctx.new.inner }
     ensures grown { Extends (I.meaning ctx.old.interner) (I.meaning ctx.new.interner) }
-    ensures has { OnOk result (Has ctx.new.inner needs) }
 {
-    reach(ctx, VariableKind::Ty, needs.types)?;
-    reach(ctx, VariableKind::Int, needs.ints)?;
-    reach(ctx, VariableKind::Float, needs.floats)?;
-    reach(ctx, VariableKind::Const, needs.consts)?;
-    reach(ctx, VariableKind::Region, needs.regions)
+    for kind in &KINDS {
+        reach(ctx, *kind, largest(named, *kind))?;
+    }
+    Ok(())
 }
 
 // Makes variables until the context has one that is named.
@@ -247,28 +265,24 @@ pub(super) fn have_variable<I: Interner>(
     reach(ctx, variable.kind, Some(variable.number))
 }
 
-// Why two types are not related so in a context, if they are not.
-pub(super) fn refusal<I: Interner>(
-    ctx: &RefCtxt<I>,
+// Nothing, where two terms may be related so in a context; else why not.
+pub(super) fn may_ask<C: HasVariables, T: Relatable<C>>(
+    ctx: &C,
+    lhs: &T,
     relation: Relation,
-    lhs: Needs,
-    rhs: Needs,
-) -> Option<NotAsked>
-    ensures { IfNone result (IsAskable ctx.now.inner.universe.0 (variance_of relation) lhs rhs) }
+    rhs: &T,
+) -> Result<(), NotAsked>
+    requires lhs_known { IsTrue (known (T.tree (C.state ctx.now).meaning lhs.now)) }
+    requires rhs_known { IsTrue (known (T.tree (C.state ctx.now).meaning rhs.now)) }
+    ensures lhs { OnOk result (MayBeRelated (C.state ctx.now).store (T.tree (C.state ctx.now).meaning lhs.now)) }
+    ensures rhs { OnOk result (MayBeRelated (C.state ctx.now).store (T.tree (C.state ctx.now).meaning rhs.now)) }
+    ensures decides { OnOk result (variance_of relation ≢ Bivariant) }
 {
-    if !lhs.closed || !rhs.closed {
-        return Some(NotAsked::Escapes);
-    }
-    if !lhs.by_lists || !rhs.by_lists {
-        return Some(NotAsked::Lists);
-    }
-    let universe = ctx.inner.universe.0;
-    if universe < lhs.universe || universe < rhs.universe {
-        return Some(NotAsked::Universe(universe));
-    }
+    may_relate(ctx, lhs)?;
+    may_relate(ctx, rhs)?;
     match relation {
-        Relation::At(Variance::Bivariant) => Some(NotAsked::Variance),
-        Relation::At(_) | Relation::Structurally => None,
+        Relation::At(Variance::Bivariant) => Err(NotAsked::Variance),
+        Relation::At(_) | Relation::Structurally => Ok(()),
     }
 }
 
@@ -302,20 +316,29 @@ pub(super) fn relate<C: InferCtxtLike, T: Relate<C::Interner>>(
     }
 }
 
-/// Writes why a question is not asked.
-pub(super) fn write_not_asked<W: Write>(why: NotAsked, out: &mut W) -> fmt::Result {
+// Writes why a term may not be related in a context of that universe. It has the variables that the term names.
+fn write_unfit<W: Write>(unfit: Unfit, universe: usize, out: &mut W) -> fmt::Result {
+    match unfit {
+        Unfit::Escapes(_) => {
+            out.write_str("a binder outside these types binds what stands in them")
+        }
+        Unfit::LaterUniverse(_) => write!(
+            out,
+            "the context's universe, {universe}, does not name the placeholder"
+        ),
+        _ => out.write_str("a binder in these types does not bind by its list"),
+    }
+}
+
+/// Writes why a question is not asked of a context of that universe.
+pub(super) fn write_not_asked<W: Write>(
+    why: NotAsked,
+    universe: usize,
+    out: &mut W,
+) -> fmt::Result {
     out.write_str("not asked: ")?;
     match why {
-        NotAsked::Escapes => out.write_str(
-            "a binder outside these types binds what stands in them",
-        ),
-        NotAsked::Lists => out.write_str("a binder in these types does not bind by its list"),
-        NotAsked::Universe(universe) => {
-            write!(
-                out,
-                "the context's universe, {universe}, does not name the placeholder"
-            )
-        }
+        NotAsked::Unfit(unfit) => write_unfit(unfit, universe, out),
         NotAsked::Variance => out.write_str("nothing is related at this variance"),
         NotAsked::Lengths => out.write_str("one list has more arguments than the other"),
         NotAsked::Depth => out.write_str("what it comes to may be too deep for the stack"),

@@ -2,10 +2,15 @@
 ghost use Rattle.std.specs.Prelude.{IsTrue, IfOk};
 ghost use Rattle.relation_terms.specs.Trees.{known};
 ghost use Rattle.relation_terms.specs.Meaning.{Extends};
+ghost use Rattle.variable_tables.specs.Tables.{IsLawful};
 ghost use Rattle.text_asking.specs.Asking.{AllReady};
+ghost use Rattle.text_asking.specs.Environments.{MakesEnvironment};
 
+use crate::context::{NotAsked, have_named};
 use crate::elaborating::clauses_of;
 use crate::question::{Ready, Unasked};
+use may_relate::{Named, Unfit};
+use relation_reference::context::RefCtxt;
 use relation_terms::terms::{Interner, ParamEnv};
 use std::fmt::{self, Write};
 use text_clauses::printing::write_clause;
@@ -21,17 +26,40 @@ pub(super) fn environment_of<I: Interner>(
     requires { AllReady (I.meaning cx.old) terms.now }
     ensures grown { Extends (I.meaning cx.old) (I.meaning cx.new) }
     ensures sure { IfOk result (λ k. IsTrue (known ((I.meaning cx.new).param_env k))) }
+    ensures made { MakesEnvironment I.meaning cx.old cx.new terms.now assumed result }
 {
     let Some(clauses) = clauses_of(cx, terms, assumed) else {
         return Err(Unasked::Memory);
     };
-    let Ok(list) = cx.mk_clauses(&clauses) else {
-        return Err(Unasked::Memory);
-    };
-    match cx.mk_param_env(list) {
-        Ok(param_env) => Ok(param_env),
-        Err(_) => Err(Unasked::Memory),
+    let list = cx.mk_clauses(&clauses)?;
+    let param_env = cx.mk_param_env(list)?;
+    Ok(param_env)
+}
+
+// The environment of what is assumed, in a context that has the variables which two terms name. None is made where they
+// name a later universe: they may not be asked about.
+#[tactic(auto, using(relation_terms::proofs::Stays::extends_on))]
+pub(super) fn environment_for<I: Interner>(
+    ctx: &mut RefCtxt<I>,
+    terms: &Ready<I>,
+    assumed: Parts,
+    lhs: Named,
+    rhs: Named,
+) -> Result<ParamEnv<I>, Unasked>
+    requires lawful { IsLawful (I.meaning ctx.old.interner) ctx.old.inner }
+    requires ready { AllReady (I.meaning ctx.old.interner) terms.now }
+    ensures lawful { IsLawful (I.meaning ctx.new.interner) ctx.new.inner }
+    ensures grown { Extends (I.meaning ctx.old.interner) (I.meaning ctx.new.interner) }
+    ensures sure { IfOk result (λ k. IsTrue (known ((I.meaning ctx.new.interner).param_env k))) }
+{
+    let latest = lhs.universe.max(rhs.universe);
+    if ctx.inner.universe.0 < latest.0 {
+        let unfit = Unfit::LaterUniverse(latest);
+        return Err(Unasked::NotAsked(NotAsked::Unfit(unfit)));
     }
+    have_named(ctx, lhs)?;
+    have_named(ctx, rhs)?;
+    environment_of(&mut ctx.interner, terms, assumed)
 }
 
 // Writes what an environment has, if anything.

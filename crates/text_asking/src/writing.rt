@@ -10,7 +10,6 @@ use crate::coherence::{write_methods, write_overlap};
 use crate::context::write_not_asked;
 use crate::counts::write_counted;
 use crate::elaborating::write_lowered;
-use crate::growth::Bounded;
 use crate::outliving::{write_assumptions, write_components};
 use crate::printing::write_answer;
 use crate::question::{Answer, AnswerOf, Outcome, Unasked};
@@ -21,6 +20,7 @@ use relation_reference::context::RefCtxt;
 use relation_semantics::infer_ctxt::InferCtxtLike;
 use relation_terms::terms::{GenericArg, Interner};
 use std::fmt::{self, Write};
+use text_depths::Bounded;
 use text_elaboration::pulls::write_pulls;
 use text_terms::printing::{TextsOf, write_arg};
 use text_users::overlapping::write_why_not;
@@ -121,7 +121,7 @@ fn write_outcome<I: Interner, W: Write>(
 {
     match outcome {
         Err(Unasked::Memory) => out.write_str("memory"),
-        Err(Unasked::NotAsked(why)) => write_not_asked(*why, out),
+        Err(Unasked::NotAsked(why)) => write_not_asked(*why, ctx.inner.universe.0, out),
         Err(Unasked::Impls(why)) => write_why_not(*why, out),
         Ok(answer) => write_given(ctx, texts, asked, answer, out),
     }

@@ -7,16 +7,12 @@ mod error;
 mod impls;
 mod namer;
 mod objects;
-mod outlives;
 mod plain;
 mod predicates;
 mod program;
 mod questions;
-mod quick;
-mod roots;
 mod statements;
 mod terms;
-mod walks;
 
 pub use error::{Missing, NameError, Wrong, write_name_error};
 pub use program::{

@@ -2,7 +2,7 @@
 
 use crate::naming::error::{NameError, Wrong, error_at};
 use crate::naming::namer::Namer;
-use crate::naming::program::{Clause, Method, Parts, QuestionKind, Says, Sort};
+use crate::naming::program::{Clause, Method, Parts, QuestionKind, Says};
 use crate::reading::{Claim, Node};
 use term_enums::PredicatePolarity;
 
@@ -50,7 +50,7 @@ impl<'a> Namer<'a> {
             return Err(error_at(&node, Wrong::NotRead));
         };
         let variables = self.variables(&node, *generics)?;
-        let ty = self.term(&node, *ty, Some(Sort::Type))?.number;
+        let ty = self.ty(&node, *ty)?;
         let name = self.node(&node, *name)?;
         let text = self.text_of(&name)?;
         let name = self.name(text)?;
@@ -72,7 +72,7 @@ impl<'a> Namer<'a> {
             self.program.methods.push(method)?;
         }
         let behind = self.program.methods.len();
-        let of = self.term(node, *ty, Some(Sort::Type))?.number;
+        let of = self.ty(node, *ty)?;
         let methods = Parts { first, behind };
         self.note(QuestionKind::Methods { methods, of })
     }

@@ -2,7 +2,7 @@
 ghost use Rattle.std.specs.Prelude.{◌≡◌};
 
 use crate::reading::{Claim, Counted, ItemSort, KeyParams, Relation, SideParams, StatedKind};
-use std::alloc::AllocError;
+use std::alloc::{AllocError, Global};
 use term_enums::{FloatTy, FnHeader, IntTy, Mutability, UintTy, Variance};
 
 /// What a term stands for.
@@ -374,4 +374,24 @@ pub struct Program<'a> {
     /// The traits, by their numbers, that the language knows as `Sized`.
     pub sized: Vec<usize>,
     pub questions: Vec<Question>,
+}
+
+impl<'a> Program<'a> {
+    // Nothing is said.
+    pub(super) fn new(alloc: Global) -> Program<'a> {
+        Program {
+            items: Vec::new(alloc),
+            names: Vec::new(alloc),
+            terms: Vec::new(alloc),
+            parts: Vec::new(alloc),
+            puts: Vec::new(alloc),
+            skips: Vec::new(alloc),
+            variables: Vec::new(alloc),
+            clauses: Vec::new(alloc),
+            methods: Vec::new(alloc),
+            stated: Vec::new(alloc),
+            sized: Vec::new(alloc),
+            questions: Vec::new(alloc),
+        }
+    }
 }

@@ -295,6 +295,16 @@ impl<'a> Namer<'a> {
         self.made.push(made)?;
         Ok(())
     }
+
+    // Makes all nodes to what they are.
+    fn go_over(&mut self) -> Result<(), NameError> {
+        self.declare_plain()?;
+        let tree = self.tree;
+        for node in &tree.nodes {
+            self.go_on(node)?;
+        }
+        Ok(())
+    }
 }
 
 // How many variables there are, where one has that number.
@@ -311,8 +321,6 @@ fn count_to(node: &Node, number: usize) -> Result<usize, NameError> {
 /// `Memory` where a growth was refused, and else what is wrong with the text, and where.
 pub fn look_up<'a>(alloc: Global, text: &'a str, tree: &'a Tree) -> Result<Program<'a>, NameError> {
     let mut namer = Namer::new(alloc, text, tree)?;
-    for node in &tree.nodes {
-        namer.go_on(node)?;
-    }
+    namer.go_over()?;
     Ok(namer.program)
 }

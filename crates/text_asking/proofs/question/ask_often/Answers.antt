@@ -1,7 +1,7 @@
 use Rattle.std.proofs.Common.{sym, subst}
 use Rattle.relation_terms.specs.Meaning.{Extends}
 use Rattle.relation_terms.proofs.Stays.{extends_on}
-use Rattle.text_asking.specs.Asking.{AreReady}
+use Rattle.text_terms.specs.Built.{AreKnown}
 use Rattle.text_asking.proofs.AskingLemmas.{ready_stays}
 use Rattle.text_asking.proofs.question.ask_often.Goals as goal
 
@@ -11,13 +11,13 @@ loop-init g c =
     record {
       lawful = h.lawful;
       grown = h.grown;
-      ready = ready_stays h.grown c.args.terms.now.built.now c.args.terms.now.needs.now c.requires.ready;
+      ready = ready_stays h.grown c.args.terms.now.built.now c.requires.ready;
       known = h.known;
     }
 
 pub ask_in-outcome-requires-in-loop-clause-ready : goal.ask_in-outcome-requires-in-loop-clause-ready
 ask_in-outcome-requires-in-loop-clause-ready g c =
-    subst (λ i. AreReady (g.I.Interner.meaning i) c.args.terms.now.built.now c.args.terms.now.needs.now)
+    subst (λ i. AreKnown (g.I.Interner.meaning i) c.args.terms.now.built.now)
     (sym c.renewed-ctx.ensures.interner) c.loop.invariant.ready
 
 pub loop-preserved : goal.loop-preserved
@@ -30,6 +30,6 @@ loop-preserved g c =
     record {
       lawful = h.lawful;
       grown = extends_on c.loop.invariant.grown grown;
-      ready = ready_stays grown c.args.terms.now.built.now c.args.terms.now.needs.now c.loop.invariant.ready;
+      ready = ready_stays grown c.args.terms.now.built.now c.loop.invariant.ready;
       known = h.known;
     }
