@@ -1,5 +1,5 @@
 -- The three added one after another.
-use Rattle.std.proofs.Common.{ap, ◌∙◌, length, List, ℕ}
+use Rattle.std.proofs.Common.{ap, length, List, ℕ}
 use Rattle.relation_regions.proofs.EdgesAdded.{built_of}
 use Rattle.relation_regions.proofs.building.built.Goals as goal
 

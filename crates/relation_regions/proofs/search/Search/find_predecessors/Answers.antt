@@ -1,7 +1,6 @@
 -- The latest edge to the node, and behind each edge the one before it.
-use Rattle.std.proofs.Common.{arith, ◌∙◌, ◌≡◌, ◌<◌, ◌-◌, length, get_or, sym, subst}
+use Rattle.std.proofs.Common.{arith, ◌∙◌, ◌≡◌, ◌<◌, ◌-◌, length, get_or}
 use Rattle.std.proofs.lemmas.Grind.{get_or_default_zero}
-use Rattle.relation_regions.specs.Searches.{HasPredecessors}
 use Rattle.relation_regions.proofs.Searching.{latest_first, latest_next, predecessors_more, keeps_itself, keeps_on}
 use Rattle.relation_regions.proofs.search.Search.find_predecessors.Goals as goal
 
