@@ -55,7 +55,6 @@ impl<'a, Infcx: InferCtxtLike> SolverRelating<'a, Infcx> {
     /// the variable can't name, `Budget` where no instantiation is left, `Sorts` of a number variable and a type that
     /// it can't be. Nothing was bound or registered then. `Memory` where a growth was refused; a variable may be bound
     /// then to one in the place of an alias, and nothing registered; or all was done, but the pair is not remembered.
-    #[inline(always)]
     pub fn step_tys(
         &mut self,
         a: &Ty<Infcx::Interner>,
@@ -83,7 +82,6 @@ impl<'a, Infcx: InferCtxtLike> SolverRelating<'a, Infcx> {
     // What comes of two types as they are read: of a pair that is remembered the left one, and nothing is done; of
     // another what combining says, which leaves ordinary types to their parts. Where that is an answer the pair is
     // remembered.
-    #[inline(always)]
     fn step_read(
         &mut self,
         a: &Ty<Infcx::Interner>,
@@ -114,8 +112,7 @@ impl<'a, Infcx: InferCtxtLike> SolverRelating<'a, Infcx> {
     }
 
     // What comes of two types that were resolved shallowly: two type variables as below; a type variable is bound to a
-    // type, which is then related with that. It stands apart from the recursion, which takes less of the stack so.
-    #[inline(never)]
+    // type, which is then related with that.
     fn combine_tys(
         &mut self,
         a: &Ty<Infcx::Interner>,
