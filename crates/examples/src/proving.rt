@@ -89,11 +89,7 @@ fn make_vec<I: Interner>(cx: &mut I, vec: I::Id, ty: Ty<I>) -> Result<Ty<I>, Out
 }
 
 // The clause that a type is of the trait.
-fn make_ranked<I: Interner>(
-    cx: &mut I,
-    ranked: I::Id,
-    ty: Ty<I>,
-) -> Result<Clause<I>, OutOfMemory>
+fn make_ranked<I: Interner>(cx: &mut I, ranked: I::Id, ty: Ty<I>) -> Result<Clause<I>, OutOfMemory>
     requires { IsTrue (known ((I.meaning cx.old).ty ty)) }
     ensures grown { Extends (I.meaning cx.old) (I.meaning cx.new) }
     ensures sure { IfOk result (λ k. IsTrue (known ((I.meaning cx.new).clause k))) }
@@ -110,7 +106,10 @@ fn make_ranked<I: Interner>(
         args,
     };
     let polarity = PredicatePolarity::Positive;
-    let value = ClauseKind::Trait(TraitPredicate { trait_ref, polarity });
+    let value = ClauseKind::Trait(TraitPredicate {
+        trait_ref,
+        polarity,
+    });
     cx.mk_clause(Binder { value, bound_vars })
 }
 
@@ -176,11 +175,7 @@ enum Inner {
 }
 
 // That type.
-fn make_inner<I: Interner>(
-    cx: &mut I,
-    name: I::Name,
-    inner: Inner,
-) -> Result<Ty<I>, OutOfMemory>
+fn make_inner<I: Interner>(cx: &mut I, name: I::Name, inner: Inner) -> Result<Ty<I>, OutOfMemory>
     ensures grown { Extends (I.meaning cx.old) (I.meaning cx.new) }
     ensures sure { IfOk result (λ k. IsTrue (known ((I.meaning cx.new).ty k))) }
 {

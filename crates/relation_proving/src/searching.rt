@@ -76,7 +76,10 @@ pub(crate) fn with_tried<R: Drop>(search: Search<R>, tried: Tried<R>) -> Search<
 ///
 /// # Errors
 /// `OutOfMemory` where a growth was refused.
-pub(crate) fn keep_told<C: KeepsRecord>(ctx: &C, told: Told) -> Result<Tried<C::Record>, OutOfMemory>
+pub(crate) fn keep_told<C: KeepsRecord>(
+    ctx: &C,
+    told: Told,
+) -> Result<Tried<C::Record>, OutOfMemory>
     requires lawful { (C.state ctx.now).lawful }
     ensures { IfOk result (KeepsTold C.state C.with_record ctx.now told) }
 {

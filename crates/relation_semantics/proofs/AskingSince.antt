@@ -281,8 +281,11 @@ reads_since before st l g a u p = read_value st (resolved st) (resolved_meets st
 
 pub leads_read : (g : Settings) (c : Items) (st : Store) (v : Variance) (a b u w : Tree) → IsReadAs st a u →
     IsReadAs st b w → LeadsAsking g c st st v a b v u w
-leads_read g c st v a b u w p o = λ k gone ha hb all. (refl, λ q now l s asks.
-    subst₂ (AsksFor c (a_constraint q) v) (sym (reads_since st now l s a u p)) (sym (reads_since st now l s b w o)) asks)
+leads_read g c st v a b u w p o = λ k gone ha hb all. (
+  refl,
+  λ q now l s asks.
+      subst₂ (AsksFor c (a_constraint q) v) (sym (reads_since st now l s a u p)) (sym (reads_since st now l s b w o)) asks,
+)
 
 -- A pair was left that comes to what the two come to.
 pub leads_alike : (g : Settings) (c : Items) (before after : Store) (v w : Variance) (a b x y : Tree) →
@@ -292,8 +295,11 @@ pub leads_alike : (g : Settings) (c : Items) (before after : Store) (v w : Varia
     AsksFor c (a_constraint q) w (apply (resolved st) a) (apply (resolved st) b) →
     AsksFor c (a_constraint q) v (apply (resolved st) a) (apply (resolved st) b)) →
     LeadsAsking g c before after v a b w x y
-leads_alike g c before after v w a b x y e same to = λ k gone ha hb all. (e, λ q st later sound asks.
-    let z = same st later sound in to q st sound (subst₂ (AsksFor c (a_constraint q) w) z.0 z.1 asks))
+leads_alike g c before after v w a b x y e same to = λ k gone ha hb all. (
+  e,
+  λ q st later sound asks.
+      let z = same st later sound in to q st sound (subst₂ (AsksFor c (a_constraint q) w) z.0 z.1 asks),
+)
 
 -- So where a variable that the one was read as was bound, and the other is left with the term.
 pub bound_since : (before after st : Store) → IsLater before after → IsLater after st → IsSound st → (a : Tree) (k : VarKind)
