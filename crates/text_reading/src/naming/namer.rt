@@ -89,6 +89,7 @@ impl<'a> Namer<'a> {
                 variables: Vec::new(alloc),
                 clauses: Vec::new(alloc),
                 methods: Vec::new(alloc),
+                impls: Vec::new(alloc),
                 stated: Vec::new(alloc),
                 sized: Vec::new(alloc),
                 questions: Vec::new(alloc),
