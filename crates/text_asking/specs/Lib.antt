@@ -7,5 +7,6 @@ pub mod Skips
 pub mod Roots
 pub mod Counts
 pub mod Impls
+pub mod Proofs
 pub use Rattle.text_needs.specs.Binding
 pub use Rattle.text_needs.specs.Needs

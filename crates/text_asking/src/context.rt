@@ -10,6 +10,7 @@ ghost use Rattle.std.specs.List.{All};
 ghost use Rattle.text_asking.specs.Asking.{Has, HasNamed, HasStated, IsAskable, IsSetUp, MakesIn};
 ghost use Rattle.text_asking.specs.Asking.{aliases_of, typing_mode, var_kind, variables_in, variance_of};
 
+use may_relate::Named;
 use relation_reference::context::RefCtxt;
 use relation_semantics::infer_ctxt::{InferCtxtLike, TypingMode};
 use relation_terms::terms::{Interner, LocalDefIds, OutOfMemory, ParamEnv, Span, Variance};
@@ -73,6 +74,15 @@ pub(super) fn renewed<I: Interner>(
     let mode = typing_mode::<I>(setup.mode, no_ids);
     ctx.renewed(mode, setup.next_solver, budget)
 }
+
+// All kinds of variables.
+const KINDS: [VariableKind; 5] = [
+    VariableKind::Ty,
+    VariableKind::Int,
+    VariableKind::Float,
+    VariableKind::Const,
+    VariableKind::Region,
+];
 
 // How many variables of a kind the context has.
 fn variables_count<I: Interner>(ctx: &RefCtxt<I>, kind: VariableKind) -> usize
@@ -231,6 +241,32 @@ pub(super) fn have_variables<I: Interner>(
     reach(ctx, VariableKind::Float, needs.floats)?;
     reach(ctx, VariableKind::Const, needs.consts)?;
     reach(ctx, VariableKind::Region, needs.regions)
+}
+
+// The largest variable of a kind that is named, if one is.
+fn largest(named: Named, kind: VariableKind) -> Option<usize> {
+    match kind {
+        VariableKind::Ty => Some(named.ty_var?.0),
+        VariableKind::Int => Some(named.int_var?.0),
+        VariableKind::Float => Some(named.float_var?.0),
+        VariableKind::Const => Some(named.const_var?.0),
+        VariableKind::Region => Some(named.region_var?.0),
+    }
+}
+
+// Makes variables until the context has those that are named.
+pub(super) fn have_named<I: Interner>(
+    ctx: &mut RefCtxt<I>,
+    named: Named,
+) -> Result<(), OutOfMemory>
+    requires { IsLawful (I.meaning ctx.old.interner) ctx.old.inner }
+    ensures lawful { IsLawful (I.meaning ctx.new.interner) ctx.new.inner }
+    ensures grown { Extends (I.meaning ctx.old.interner) (I.meaning ctx.new.interner) }
+{
+    for kind in &KINDS {
+        reach(ctx, *kind, largest(named, *kind))?;
+    }
+    Ok(())
 }
 
 // Makes variables until the context has one that is named.

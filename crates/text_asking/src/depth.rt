@@ -1,6 +1,7 @@
 //! How deep what a question comes to may be, so that the stack holds it.
 
 use crate::context::NotAsked;
+use crate::proving::opened_levels;
 use crate::question::Unasked;
 use std::alloc::{AllocError, Global};
 use text_needs::needs::{Needs, need_at};
@@ -99,6 +100,7 @@ fn relates(program: &Program) -> bool {
             QuestionKind::Relate { .. }
                 | QuestionKind::RelateArgs { .. }
                 | QuestionKind::Overlap { .. }
+                | QuestionKind::Prove { .. }
         ) {
             return true;
         }
@@ -132,6 +134,7 @@ fn push_related(
             push_header(program, *left, found)?;
             push_header(program, *right, found)?;
         }
+        QuestionKind::Prove { goal, .. } => push_header(program, *goal, found)?,
         _ => {}
     }
     Ok(())
@@ -402,7 +405,9 @@ impl Depths {
         } else {
             self.chained
         };
-        let chained = before.saturating_add(found.open);
+        let chained = before
+            .saturating_add(found.open)
+            .saturating_add(opened_levels(self.alloc, program, question)?);
         if chained > MOST {
             return Ok(false);
         }

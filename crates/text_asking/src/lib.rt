@@ -17,6 +17,7 @@ mod interner;
 mod lists;
 mod outliving;
 pub mod printing;
+mod proving;
 mod question;
 mod quick;
 mod regions;
@@ -163,6 +164,7 @@ pub fn ask_over<I: SizedKeys + Drop, W: Write>(
         skips: &program.skips,
         clauses: &program.clauses,
         methods: &program.methods,
+        impls: &program.impls,
         ids,
         names,
         no_ids,

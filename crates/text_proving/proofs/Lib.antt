@@ -1,3 +1,3 @@
 mod Closing
 mod Serving
-mod Making
+pub mod Making

@@ -8,13 +8,13 @@ ghost use Rattle.relation_semantics.specs.Steps.{IsLater};
 ghost use Rattle.relation_proving.specs.Answers.{YesDerives, YesMakesFollow, YesLosesNone};
 ghost use Rattle.relation_proving.specs.Answers.{NoFollowsNever, LeavesNothing};
 ghost use Rattle.relation_proving.specs.RuleTerms.{KnowsRule, IsClosedRule};
-ghost use Rattle.text_proving.specs.Texts.{told_text};
+ghost use Rattle.text_proving.specs.Texts.{proof_text};
 
 pub use crate::refusing::WhyNot;
 use crate::refusing::refusal;
 use kept_records::KeepsRecord;
 use may_relate::{HasVariables, Unfit};
-use relation_folds::error::RelateResult;
+use relation_folds::error::{RelateFault, RelateResult};
 use relation_proving::opening::RuleOf;
 use relation_proving::proving::{Told, Why, prove};
 use relation_terms::terms::{Clause, Interner, ParamEnv};
@@ -58,15 +58,18 @@ pub fn ask_proof<C: HasVariables + KeepsRecord>(
     Ok(prove(ctx, rules, param_env, goal, depth, span))
 }
 
-/// How what is told of a goal is written.
-pub fn told_text(told: Told) -> &'static str
-    ensures { result.now ≡ told_text told }
+/// How what is told of a goal is written, or why nothing is.
+pub fn proof_text<I: Interner>(proof: &ProofResult<I>) -> &'static str
+    ensures { result.now ≡ proof_text proof.now }
 {
-    match told {
-        Told::Yes => "yes",
-        Told::No => "no",
-        Told::Maybe(Why::Ambiguous) => "maybe: ambiguous",
-        Told::Maybe(Why::Depth) => "maybe: depth",
+    match proof {
+        Ok(Told::Yes) => "yes",
+        Ok(Told::No) => "no",
+        Ok(Told::Maybe(Why::Ambiguous)) => "maybe: ambiguous",
+        Ok(Told::Maybe(Why::Depth)) => "maybe: depth",
+        Err(RelateFault::Memory) => "memory",
+        Err(RelateFault::Budget) => "budget",
+        Err(RelateFault::Unrelated(_)) => "unrelated",
     }
 }
 
