@@ -2,7 +2,7 @@
 
 use crate::context::NotAsked;
 use crate::proving::opened_levels;
-use crate::question::Unasked;
+use crate::question::{Unasked, budget_of};
 use std::alloc::{AllocError, Global};
 use text_needs::needs::{Needs, need_at};
 use text_reading::naming::{
@@ -302,6 +302,8 @@ pub(super) struct Depths {
     search: Search,
     // How many terms a chain of bindings may lead through.
     chained: usize,
+    // How many instantiations the context may make.
+    budget: usize,
     types: Variables,
     consts: Variables,
 }
@@ -331,6 +333,7 @@ impl Depths {
                 left: 0,
             },
             chained: 0,
+            budget: 0,
             types: Variables::new(alloc),
             consts: Variables::new(alloc),
         })
@@ -392,6 +395,7 @@ impl Depths {
     ) -> Result<bool, AllocError> {
         if !question.then {
             self.chained = 0;
+            self.budget = budget_of(question);
             self.types.clear();
             self.consts.clear();
         }
@@ -407,7 +411,7 @@ impl Depths {
         };
         let chained = before
             .saturating_add(found.open)
-            .saturating_add(opened_levels(self.alloc, program, question)?);
+            .saturating_add(opened_levels(self.alloc, program, &question.kind, self.budget)?);
         if chained > MOST {
             return Ok(false);
         }

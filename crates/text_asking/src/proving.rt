@@ -12,7 +12,7 @@ use crate::depth::push_parts;
 use crate::elaborating::clauses_of;
 use crate::environment::environment_of;
 use crate::printing::{write_bound, write_constraints, write_tainted};
-use crate::question::{Ready, Unasked, budget_of};
+use crate::question::{Ready, Unasked};
 use may_relate::named_in;
 use relation_reference::context::RefCtxt;
 use relation_terms::terms::{Binder, Clause, ClauseKey, ClausesKey, Interner, Keys, ParamEnvKey};
@@ -21,7 +21,7 @@ use std::fmt::{self, Write};
 use text_clauses::building::build_clause;
 use text_proving::proving::{ProofResult, ask_proof, proof_text};
 use text_proving::rules::{RuleOf, rule_of, rules_held};
-use text_reading::naming::{Impl, Parts, Program, Question, QuestionKind, Says};
+use text_reading::naming::{Impl, Parts, Program, QuestionKind, Says};
 use text_terms::building::variables_at;
 use text_terms::printing::TextsOf;
 
@@ -214,26 +214,18 @@ fn levels_in(program: &Program, levels: &[usize], range: Parts) -> usize {
     most
 }
 
-// How many instantiations a context of a program's questions makes at most.
-fn most_instantiations(program: &Program) -> usize {
-    let mut most = 0usize;
-    for question in &program.questions {
-        most = budget_of(question).max(most);
-    }
-    most
-}
-
-/// By how many levels a question may make terms deeper that opens impls: an instantiation by no more than the terms of
-/// an impl have.
+/// By how many levels a question may make terms deeper that opens impls, where its context makes so many instantiations:
+/// each by no more than the terms of an impl have.
 ///
 /// # Errors
 /// `AllocError` where a growth was refused.
 pub(super) fn opened_levels(
     alloc: Global,
     program: &Program,
-    question: &Question,
+    kind: &QuestionKind,
+    budget: usize,
 ) -> Result<usize, AllocError> {
-    let QuestionKind::Prove { impls, .. } = question.kind else {
+    let QuestionKind::Prove { impls, .. } = *kind else {
         return Ok(0);
     };
     let levels = levels_of(alloc, program)?;
@@ -241,5 +233,5 @@ pub(super) fn opened_levels(
     for said in program.impls.get(..impls).unwrap_or(&[]) {
         most = levels_in(program, &levels, said.clauses).max(most);
     }
-    Ok(most.saturating_mul(most_instantiations(program)))
+    Ok(most.saturating_mul(budget))
 }
