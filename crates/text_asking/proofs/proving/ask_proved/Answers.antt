@@ -26,8 +26,8 @@ pub ask_proof-requires-clause-goal_known : goal.ask_proof-requires-clause-goal_k
 ask_proof-requires-clause-goal_known g c =
     (proof_later c.have_named.ensures.grown c.in-Some.proof c.in-Some.ensures.sure).goal
 
-pub returns-in_default-proof_of-clause-lawful : goal.returns-in_default-proof_of-clause-lawful
-returns-in_default-proof_of-clause-lawful g c =
+pub returns-in_default-clause-lawful : goal.returns-in_default-clause-lawful
+returns-in_default-clause-lawful g c =
     lawful_grows c.proof_of.ensures.grown c.args.ctx.now.inner c.requires.lawful
 
 pub returns-in_default-have_named-clause-grown : goal.returns-in_default-have_named-clause-grown
