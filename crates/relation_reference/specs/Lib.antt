@@ -5,3 +5,4 @@ pub mod Generalises
 pub mod Answers
 pub mod Changes
 pub mod Opened
+pub mod Copies

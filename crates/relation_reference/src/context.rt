@@ -2,11 +2,13 @@
 
 mod binders;
 mod clearing;
+mod copying;
 mod equating;
 mod folding;
 mod generalising;
 mod infer_ctxt;
 mod instantiating;
+mod keeping;
 mod memory;
 mod numbers;
 mod own_variables;

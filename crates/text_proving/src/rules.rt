@@ -28,12 +28,16 @@ pub fn rule_of<I: Interner>(
 }
 
 // The rule of a clause that is held.
+#[tactic(auto, using(relation_terms::proofs::Stays::stays_same))]
 fn rule_held<I: Interner>(cx: &mut I, clause: Clause<I>) -> Result<RuleOf<I>, OutOfMemory>
     requires { KnowsClause (I.meaning cx.old) clause }
     ensures grown { Extends (I.meaning cx.old) (I.meaning cx.new) }
     ensures held { IfOk result (IsHeld (I.meaning cx.old) (I.meaning cx.new) clause) }
 {
-    rule_of(cx, &[], &[clause])
+    let none = Vec::new(cx.alloc());
+    let mut list = Vec::new(cx.alloc());
+    list.push(clause)?;
+    rule_of(cx, &none, &list)
 }
 
 /// A rule for each clause that is held, in their order: it gives that clause, binds nothing and asks for nothing. The

@@ -1,5 +1,5 @@
 //! The table of classes.
-ghost use Rattle.std.specs.Prelude.{◌≡◌, ◌≤◌, ◌<◌, [], ◌∷◌, ◌++◌, length, if◌then◌else◌, OnOk, is_ok};
+ghost use Rattle.std.specs.Prelude.{◌≡◌, ◌≤◌, ◌<◌, [], ◌∷◌, ◌++◌, length, if◌then◌else◌, OnOk, IfOk, is_ok};
 ghost use Rattle.variable_classes.specs.Roots.{root_in, joined_roots, IsRootTable};
 
 use crate::members::{Member, alone, join};
@@ -34,6 +34,18 @@ impl VariableClasses {
         VariableClasses {
             members: Vec::new(alloc),
         }
+    }
+
+    /// The same classes, in memory of their own.
+    ///
+    /// # Errors
+    /// `OutOfMemory` where a growth was refused.
+    pub fn copied(&self, alloc: Global) -> Result<VariableClasses, OutOfMemory>
+        ensures items { IfOk result (λ c. c.items ≡ self.now.items) }
+    {
+        let mut members = Vec::new(alloc);
+        members.extend_from_slice(&self.members)?;
+        Ok(VariableClasses { members })
     }
 
     /// How many numbers there are.

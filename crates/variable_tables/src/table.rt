@@ -1,5 +1,5 @@
 //! One table of variables: what is recorded of them, and how two classes become one.
-ghost use Rattle.std.specs.Prelude.{◌≡◌, ◌≤◌, ◌<◌, [], ◌∷◌, ◌++◌, if◌then◌else◌, is_ok, IsTrue, IsFalse};
+ghost use Rattle.std.specs.Prelude.{◌≡◌, ◌≤◌, ◌<◌, [], ◌∷◌, ◌++◌, if◌then◌else◌, is_ok, IfOk, IsTrue, IsFalse};
 ghost use Rattle.std.specs.Prelude.{length, get_or, min, slice_set, Some};
 ghost use Rattle.variable_tables.specs.declared.inner.VariableValue.TheVariants.{Unknown, Known};
 ghost use Rattle.variable_tables.specs.Rooted.{bound_value, root_value, term_or, row_keys, row_universes, row_terms};
@@ -127,6 +127,19 @@ impl<K> VariableTable<K> {
 }
 
 impl<K: Copy> VariableTable<K> {
+    /// The same variables, in memory of their own.
+    ///
+    /// # Errors
+    /// `OutOfMemory` where a growth was refused.
+    pub fn copied(&self, alloc: Global) -> Result<VariableTable<K>, OutOfMemory>
+        ensures items { IfOk result (λ t. t.items ≡ self.now.items) }
+    {
+        let classes = self.classes.copied(alloc)?;
+        let mut rows = Vec::new(alloc);
+        rows.extend_from_slice(&self.rows)?;
+        Ok(VariableTable { rows, classes })
+    }
+
     /// The next variable, of which nothing is recorded.
     ///
     /// # Errors
