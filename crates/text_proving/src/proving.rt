@@ -28,7 +28,7 @@ pub type ProofResult<I> = RelateResult<I, Told>;
 ///
 /// # Errors
 /// What stands in the way of asking: then the context is as it was.
-#[tactic(auto, using(relation_terms::proofs::Stays::stays_same, relation_semantics::proofs::Going::later_itself))]
+#[tactic(auto, using(relation_terms::proofs::Stays::stays_same))]
 pub fn ask_proof<C: HasVariables + KeepsRecord>(
     ctx: &mut C,
     rules: &[RuleOf<C::Interner>],

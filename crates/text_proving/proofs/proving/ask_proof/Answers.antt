@@ -1,5 +1,5 @@
-use Rattle.std.specs.List.{All}
 use Rattle.std.proofs.lemmas.List.Elements.{All-weaker}
+use Rattle.relation_semantics.proofs.Going.{later_itself}
 use Rattle.relation_proving.specs.RuleTerms.{MayUse, IsClosedRule}
 use Rattle.text_proving.specs.Asked.{MayServe}
 use Rattle.text_proving.proofs.proving.ask_proof.Goals as goal
@@ -17,3 +17,6 @@ pub returns-clause-closed : goal.returns-clause-closed
 returns-clause-closed g c =
     let s = g.C.InferCtxtLike.state c.args.ctx.now in
     All-weaker (MayServe s) (IsClosedRule s) (λ r p. p.closed) c.args.rules.now c.in_default.ensures.rules
+
+pub returns-in-Some-clause-later : goal.returns-in-Some-clause-later
+returns-in-Some-clause-later g c = later_itself (g.C.InferCtxtLike.state c.args.ctx.now).store

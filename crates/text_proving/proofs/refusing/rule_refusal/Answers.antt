@@ -15,8 +15,8 @@ are_closed-requires g c =
     subst (λ n. IsTrue (known (n.clauses r.value))) (sym c.cx-cx.ensures)
     (under_known (m.bound_vars r.bound_vars) (m.clauses r.value) c.requires).1
 
-pub clauses-requires : goal.clauses-requires
-clauses-requires g c =
+pub clauses-list-requires : goal.clauses-list-requires
+clauses-list-requires g c =
     let m = (g.C.InferCtxtLike.state c.args.ctx.now).meaning in
     let r = c.args.rule.now in
     subst (λ n. IsTrue (known (n.clauses r.value))) (sym c.cx-cx.ensures)
