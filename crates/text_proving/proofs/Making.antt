@@ -1,6 +1,6 @@
 -- Rules that are made of clauses, and that stay what they are.
 use Rattle.std.proofs.Common.{◌≡◌, ℕ, ◌+◌, ◌<◌, List, [], ◌∷◌, ◌++◌, map, take, get_or, length, refl, sym, ap, ap₂, ◌∙◌}
-use Rattle.std.proofs.Common.{subst, suc, zero, arith, Option, Some, IsTrue}
+use Rattle.std.proofs.Common.{subst, suc, zero, arith, Some, IsTrue}
 use Rattle.std.specs.Prelude.{IsSome}
 use Rattle.std.specs.Cmp.Derive.{both_true}
 use Rattle.std.specs.List.{All}
@@ -10,7 +10,6 @@ use Rattle.relation_terms.specs.declared.terms.binder.Binder.{Binder}
 use Rattle.relation_terms.specs.declared.terms.binder.BoundVariableKind.{BoundVariableKind}
 use Rattle.relation_terms.specs.declared.terms.keys.ClauseKey.{ClauseKey}
 use Rattle.relation_terms.specs.declared.terms.keys.ClausesKey.{ClausesKey}
-use Rattle.relation_terms.specs.Heads.{BoundKind}
 use Rattle.relation_terms.specs.Trees.{Tree, bind, nil, cons, list_tree, known}
 use Rattle.relation_terms.specs.Meaning.{Meaning, Extends, under, bound_kinds}
 use Rattle.relation_terms.proofs.Binders.{under_stays}

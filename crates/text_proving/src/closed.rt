@@ -5,9 +5,7 @@ ghost use Rattle.relation_semantics.specs.Relation.{IsValueLeaf};
 ghost use Rattle.text_proving.specs.Closed.{EntersClosed};
 
 use relation_folds::visit::{TypeVisitable, TypeVisitor, Visit};
-use relation_terms::terms::{
-    Clauses, Const, ConstKind, Interner, Region, RegionKind, Ty, TyKind,
-};
+use relation_terms::terms::{Clauses, Const, ConstKind, Interner, Region, RegionKind, Ty, TyKind};
 use std::ops::ControlFlow;
 
 // Stops at what is not closed, and enters all else.
