@@ -10,6 +10,8 @@ CODES = {"E0277": NO, "E0283": AMBIGUOUS, "E0282": AMBIGUOUS, "E0284": AMBIGUOUS
 HIDES, KNOWN = "the environment first", "types known"
 # What is said where it is ambiguous what the function has and what impls give: rustc takes the former, at each goal.
 IF_FIRST = "ambiguous, unless the environment comes first"
+# The old solver tells a goal both of which one bound fails and another one does not end.
+BOTH = "no and depth"
 # A case has a text of its own, of two questions; it is judged by the old solver and by the next one.
 AT_ONCE, FLAGS = 2, ((), ("-Znext-solver=globally",))
 
@@ -185,11 +187,14 @@ def given_up(said):
 
 def observed(case, said):
     codes = sorted({CODES.get(it, it or "an error without a code") for it in said.errors})
+    if codes == [DEEP, NO]:
+        return BOTH
     return YES if not codes else codes[0] if len(codes) == 1 else f"refused by {' '.join(codes)}"
 
 
 def agrees(expected, seen):
-    return expected == seen or expected == IF_FIRST and seen in (YES, NO, AMBIGUOUS)
+    allowed = {BOTH: (NO, DEEP)}.get(seen, (seen,))
+    return expected in allowed or expected == IF_FIRST and seen in (YES, NO, AMBIGUOUS)
 
 
 def smaller(case):
