@@ -10,3 +10,4 @@ pub mod AssumeLemmas
 pub mod Universes
 pub mod EnvironmentLemmas
 pub mod CoherenceLemmas
+pub mod ProofLemmas

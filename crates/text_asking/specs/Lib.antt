@@ -9,3 +9,4 @@ pub mod Counts
 pub mod Impls
 pub mod Environments
 pub mod Programs
+pub mod Proofs

@@ -15,6 +15,7 @@ mod lists;
 mod outliving;
 pub mod printing;
 pub mod programs;
+mod proving;
 mod question;
 mod quick;
 mod regions;
@@ -25,7 +26,7 @@ mod walking;
 mod writing;
 
 use answer_text::AnswerText;
-use question::{Ready, ask_unless, context_for, why_not_held};
+use question::{Ready, ask_unless, budget_of, context_for, why_not_held};
 use reference_interner::RefInterner;
 use relation_reference::context::RefCtxt;
 use relation_semantics::infer_ctxt::TypingMode;
@@ -96,7 +97,10 @@ fn ask_ready<I: SizedKeys + Drop, W: Write>(
             types: asked.inner.types.len(),
             consts: asked.inner.consts.len(),
         };
-        let why_not = why_not_held(kept.depths.take_up(program, question, counts));
+        let why_not = why_not_held(
+            kept.depths
+                .take_up(program, question, counts, budget_of(question)),
+        );
         let bounded = kept.growths.bounded(program, question);
         let (left, outcome) = ask_unless(asked, terms, &bounded.question, why_not);
         ctx = left;
@@ -157,6 +161,7 @@ pub fn ask_over<I: SizedKeys + Drop, W: Write>(
         skips: &program.skips,
         clauses: &program.clauses,
         methods: &program.methods,
+        impls: &program.impls,
         ids,
         names,
         no_ids,

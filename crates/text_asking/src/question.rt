@@ -15,6 +15,7 @@ use crate::environment::environment_for;
 use crate::folding::{fold, puts_at};
 use crate::lists::ask_args_related;
 use crate::outliving::{ask_assumptions, ask_components};
+use crate::proving::ask_proved;
 use crate::quick::{KeyOf, ask_args_may_unify, ask_key, ask_may_unify};
 use crate::regions::ask_regions;
 use crate::roots::{ask_binding, ask_one};
@@ -25,6 +26,7 @@ use may_relate::named_in;
 use relation_coherence::overlap::Overlap;
 use relation_folds::error::RelateFault;
 use relation_folds::visit::{has_escaping_bound_vars, has_non_region_infer, is_known_rigid};
+use relation_proving::proving::Told;
 use relation_reference::context::RefCtxt;
 use relation_regions::Solved;
 use relation_terms::predicate::OutlivesPredicate;
@@ -34,7 +36,8 @@ use relation_terms::terms::{
 use relation_tools::outlives::Component;
 use std::alloc::{AllocError, Global};
 use text_elaboration::pulls::{Manner, Pulled};
-use text_reading::naming::{Clause, Method, Parts, Put, Question, QuestionKind, Variables};
+use text_proving::proving::WhyNot as WhyUnproved;
+use text_reading::naming::{Clause, Impl, Method, Parts, Put, Question, QuestionKind, Variables};
 use text_reading::reading::Relation;
 use text_terms::building::{key_at, keys_at, ty_at};
 use text_users::overlapping::WhyNot;
@@ -53,6 +56,8 @@ pub(super) struct Ready<'a, I: Interner> {
     pub clauses: &'a [Clause],
     // The methods of tables.
     pub methods: &'a [Method],
+    // The impls that goals may follow from.
+    pub impls: &'a [Impl],
     pub ids: &'a [I::Id],
     pub names: &'a [I::Name],
     // The list without ids, which typing modes name.
@@ -69,6 +74,8 @@ pub(super) enum Unasked {
     NotAsked(NotAsked),
     // Why two impls are not asked about.
     Impls(WhyNot),
+    // Why it is not asked whether a goal follows.
+    Proof(WhyUnproved),
 }
 
 impl From<OutOfMemory> for Unasked {
@@ -100,6 +107,8 @@ pub(super) enum Answer<R, K, X: Copy, D, N> {
     // Of two impls of a trait.
     Overlap(TraitId<D>, Result<Overlap<X, D, N>, RelateFault<X, D, N>>),
     Methods(Vec<N>),
+    // Of a goal.
+    Proved(Result<Told, RelateFault<X, D, N>>),
 }
 
 // What is answered to a question over an interner.
@@ -375,6 +384,9 @@ fn ask<I: SizedKeys>(ctx: &mut RefCtxt<I>, terms: &Ready<I>, question: &Question
             ask_impls_overlap(ctx, terms, question.assumed, left, right)
         }
         QuestionKind::Methods { methods, of } => ask_methods(ctx, terms, methods, of),
+        QuestionKind::Prove { goal, impls, depth } => {
+            ask_proved(ctx, terms, question.assumed, goal, impls, depth)
+        }
         QuestionKind::Solve { longer, shorter } => ask_regions(ctx, terms, longer, shorter),
         QuestionKind::One(first, second) => whether::<I>(ask_one(ctx, first, second)),
         QuestionKind::Binding(variable) => {

@@ -1,5 +1,6 @@
 //! How deep what a question comes to may be, so that the stack holds it.
 
+use crate::opening::opened_levels;
 use std::alloc::{AllocError, Global};
 use text_reading::naming::{
     Parts, Program, Question, QuestionKind, Says, Term, VariableId, VariableKind,
@@ -118,6 +119,7 @@ fn relates(program: &Program) -> bool {
             QuestionKind::Relate { .. }
                 | QuestionKind::RelateArgs { .. }
                 | QuestionKind::Overlap { .. }
+                | QuestionKind::Prove { .. }
         ) {
             return true;
         }
@@ -151,6 +153,7 @@ fn push_related(
             push_header(program, *left, found)?;
             push_header(program, *right, found)?;
         }
+        QuestionKind::Prove { goal, .. } => push_header(program, *goal, found)?,
         _ => {}
     }
     Ok(())
@@ -324,6 +327,8 @@ pub struct Depths {
     search: Search,
     // How many terms a chain of bindings may lead through.
     chained: usize,
+    // How many instantiations the context may make.
+    budget: usize,
     types: Variables,
     consts: Variables,
 }
@@ -353,6 +358,7 @@ impl Depths {
                 left: 0,
             },
             chained: 0,
+            budget: 0,
             types: Variables::new(alloc),
             consts: Variables::new(alloc),
         })
@@ -402,7 +408,8 @@ impl Depths {
         Ok(found)
     }
 
-    /// Takes up a question, of whose context it is said how many variables it has, and answers whether it may be asked,
+    /// Takes up a question, of whose context it is said how many variables it has and, where it is a new one, how many
+    /// instantiations it may make, and answers whether it may be asked,
     /// or may come to what is too deep. What was instantiated is a copy: where a variable is named that was made with
     /// one, the copy and what it is a copy of may stand in one chain. A variable that is made since a question names it
     /// stands in none.
@@ -414,9 +421,11 @@ impl Depths {
         program: &Program,
         question: &Question,
         made: Counts,
+        budget: usize,
     ) -> Result<bool, AllocError> {
         if !question.then {
             self.chained = 0;
+            self.budget = budget;
             self.types.clear();
             self.consts.clear();
         }
@@ -430,7 +439,12 @@ impl Depths {
         } else {
             self.chained
         };
-        let chained = before.saturating_add(found.open);
+        let chained = before.saturating_add(found.open).saturating_add(opened_levels(
+            self.alloc,
+            program,
+            &question.kind,
+            self.budget,
+        )?);
         if chained > MOST {
             return Ok(false);
         }

@@ -4,6 +4,7 @@
 
 mod depth;
 mod growth;
+mod opening;
 
 pub use depth::{Counts, Depths};
 pub use growth::{Bounded, Growths};

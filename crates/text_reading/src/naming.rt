@@ -16,7 +16,7 @@ mod terms;
 
 pub use error::{Missing, NameError, Wrong, write_name_error};
 pub use program::{
-    Clause, Declared, Item, Method, Mode, ParamSort, Parts, Program, Put, Question, QuestionKind,
-    Says, Setup, Sort, Stated, Term, VariableId, VariableKind, Variables,
+    Clause, Declared, Impl, Item, Method, Mode, ParamSort, Parts, Program, Put, Question,
+    QuestionKind, Says, Setup, Sort, Stated, Term, VariableId, VariableKind, Variables,
 };
 pub use statements::{LAST_UNIVERSE, MOST_VARIABLES, look_up};

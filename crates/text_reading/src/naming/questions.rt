@@ -1,6 +1,7 @@
 //! Questions of the tree's nodes.
 
 use crate::naming::error::{NameError, Wrong, error_at};
+use crate::naming::impls::DEPTH;
 use crate::naming::namer::Namer;
 use crate::naming::program::{Parts, Put, Question, QuestionKind, Sort, VariableId, VariableKind};
 use crate::naming::statements::MOST_VARIABLES;
@@ -336,6 +337,11 @@ impl<'a> Namer<'a> {
             (Form::Supertraits, _) => self.note_supertraits(node, parts),
             (Form::Overlap, [lhs, rhs]) => self.note_overlap(node, *lhs, *rhs),
             (Form::Methods, _) => self.note_methods(node, parts),
+            (Form::Prove, [goal]) => self.note_prove(node, *goal, DEPTH),
+            (Form::Prove, [goal, depth]) => {
+                let depth = self.depth(node, *depth)?;
+                self.note_prove(node, *goal, depth)
+            }
             (Form::ImplHeader | Form::Method, _) => Ok(()),
             (Form::Terms | Form::Put | Form::Outlives | Form::Error, _) => Ok(()),
             (Form::Limit | Form::Pulls, _) => Ok(()),

@@ -278,6 +278,10 @@ impl<'a> Namer<'a> {
             (Form::Stating, [name]) => self.begin_stating(node, *name),
             (Form::States(kind), [_, clauses @ ..]) => self.state(node, kind, clauses),
             (Form::Assumes, _) => self.assume(node, parts),
+            (Form::Impl, [generics, given, asks @ ..]) => {
+                self.declare_impl(node, *generics, *given, asks)
+            }
+            (Form::Given, _) => Ok(()),
             _ => self.question(node, form, parts),
         }
     }

@@ -1,0 +1,3 @@
+mod Closing
+mod Serving
+pub mod Making

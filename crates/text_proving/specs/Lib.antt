@@ -1,0 +1,4 @@
+pub mod Closed
+pub mod Made
+pub mod Asked
+pub mod Texts
