@@ -1,13 +1,16 @@
 -- Binders over the variables that are used in their bodies.
-use Rattle.std.proofs.Common.{ℕ, ◌≡◌, refl, ap, ap₂, IsTrue, List, [], ◌∷◌, map, Option, Some, None}
+use Rattle.std.proofs.Common.{ℕ, ◌≡◌, ◌∙◌, refl, sym, ap, ap₂, subst, arith, IsTrue, List, [], ◌∷◌, map, length}
+use Rattle.std.proofs.Common.{Option, Some, None}
 use Rattle.std.proofs.lemmas.Bool.{false≢true}
 use Rattle.relation_terms.specs.Heads.{BoundKind}
 use Rattle.relation_terms.specs.Trees.{Tree, known}
 use Rattle.relation_terms.specs.Meaning.{Meaning, under, bound_kinds}
+use Rattle.relation_terms.specs.declared.terms.binder.BoundVariableKind.{BoundVariableKind}
 use Rattle.relation_folds.specs.Folds.{folded}
 use Rattle.anonymize.specs.declared.used.UsedVar.{UsedVar}
 use Rattle.anonymize.specs.declared.used.UsedVar.TheVariants.{Ty, Region, Const}
 use Rattle.anonymize.specs.Anonymous.{used_vars, named, renames, anonymized, named_as}
+use Rattle.anonymize.proofs.Renamings.{renamed_empty}
 
 -- Variables by a name, as the interner means them.
 pub named_kinds : {Key Id Name : Type 0} (m : Meaning Key Id Name) (s : Name) (us : List UsedVar) →
@@ -23,3 +26,19 @@ pub anonymized_under : (n : ℕ) (o q : Option (List BoundKind)) (t u : Tree) �
     under q u ≡ anonymized n (under o t)
 anonymized_under n (Some ks) q t u k e f = ap₂ under e f
 anonymized_under n None q t u k e f = absurd (false≢true k)
+
+no_member : {A : Type 0} (xs : List A) → length xs ≡ 0 → xs ≡ []
+no_member [] e = refl
+no_member (x ∷ xs) e = absurd (omega (arith, e))
+
+-- A binder over no variable, of which none is used.
+pub anonymized_already : {Key Id Name : Type 0} (m : Meaning Key Id Name) (n : ℕ) (vars : List (BoundVariableKind Name))
+    (o : Option (List BoundKind)) (t : Tree) (us : List UsedVar) → IsTrue (known (under o t)) →
+    o ≡ Some (bound_kinds m vars) → length vars ≡ 0 → us ≡ used_vars t → length us ≡ 0 →
+    under o t ≡ anonymized n (under o t)
+anonymized_already m n vars o t us k e v f u =
+    let none : used_vars t ≡ [] = sym f ∙ no_member us u in
+    let list : o ≡ Some (map (named n) (used_vars t)) =
+    e ∙ ap (λ xs. Some (bound_kinds m xs)) (no_member vars v) ∙ ap (λ xs. Some (map (named n) xs)) (sym none) in
+    anonymized_under n o o t t k list
+    (subst (λ xs. t ≡ folded (renames n xs) 0 t) (sym none) (renamed_empty [] n t refl))

@@ -14,7 +14,7 @@ mod used;
 
 use crate::collecting::used_vars;
 use crate::renaming::{named_vars, rename_bound_vars};
-use crate::used::stand_below;
+use crate::used::{binds_none, stand_below};
 use relation_terms::terms::{Binder, Interner, OutOfMemory, Predicate, Symbol};
 
 /// The predicate with its outermost binder over the variables alone that are used in it, in the order in which a visit
@@ -36,9 +36,13 @@ pub fn anonymize_bound_vars<I: Interner>(
     ensures sure { IfOk result (λ k. IsTrue (known ((I.meaning cx.new).predicate k))) }
     ensures made { IfOk result (λ k. IsAnonymized (I.meaning cx.old) (I.meaning cx.new) name predicate.now k) }
 {
-    let body = cx.predicate_kind(predicate).value;
-    let used = used_vars(cx, &body)?;
-    let value = rename_bound_vars(cx, &body, &used, name)?;
+    let form = cx.predicate_kind(predicate);
+    let used = used_vars(cx, &form.value)?;
+    let bound = cx.bound_vars(&form.bound_vars).len();
+    if binds_none(&used, bound) {
+        return Ok(*predicate);
+    }
+    let value = rename_bound_vars(cx, &form.value, &used, name)?;
     let vars = named_vars(&used, name, cx.alloc())?;
     let bound_vars = cx.mk_bound_vars(&vars)?;
     cx.mk_predicate(Binder { value, bound_vars })

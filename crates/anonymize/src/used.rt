@@ -1,5 +1,5 @@
 //! The variables of a binder, and lists of them.
-ghost use Rattle.std.specs.Prelude.{◌≡◌, ◌↔◌, IsTrue, OnOk};
+ghost use Rattle.std.specs.Prelude.{◌≡◌, ◌↔◌, IsTrue, OnOk, length};
 ghost use Rattle.std.specs.List.{All};
 ghost use Rattle.anonymize.specs.Anonymous.{same_var, place_in, one_more, StandsBelow};
 
@@ -46,6 +46,13 @@ pub fn add(vars: &mut Vec<UsedVar>, var: UsedVar) -> Result<(), OutOfMemory>
         Some(_) => Ok(()),
         None => Ok(vars.push(var)?),
     }
+}
+
+/// Whether a binder of so many variables binds none, and none is used.
+pub fn binds_none(used: &[UsedVar], count: usize) -> bool
+    ensures { IsTrue result ↔ ((length used.now ≡ 0) × (count ≡ 0)) }
+{
+    (used.len() == 0) & (count == 0)
 }
 
 // Whether the place of a variable is below a number.

@@ -1,7 +1,9 @@
 -- What a test of a pair answers of two types.
-use Rattle.std.proofs.Common.{◌≡◌, ◌⊎◌, ◌↔◌, ℕ, suc, ◌<◌, Bool, true, false, IsTrue, refl, sym, ◌∙◌, subst, inl, inr, arith}
-use Rattle.relation_terms.specs.Heads.{type_sort, const_sort, region_sort}
-use Rattle.relation_terms.specs.Trees.{Tree, known, size}
+use Rattle.std.proofs.Common.{◌≡◌, ◌⊎◌, ◌↔◌, ℕ, suc, ◌<◌, Bool, true, false, IsTrue, refl, sym, ap, ◌∙◌, subst, inl, inr, arith}
+use Rattle.std.proofs.Common.{Option, Some, None, cond}
+use Rattle.relation_terms.specs.Heads.{type_sort, const_sort, region_sort, Head, head_sort, alias, unevaluated, expression}
+use Rattle.relation_terms.specs.Heads.{raw_ptr, ref}
+use Rattle.relation_terms.specs.Trees.{Tree, leaf, node, bind, nil, cons, known, size}
 use Rattle.relation_terms.specs.Parts.{tree_sort}
 use Rattle.relation_terms.specs.Meaning.{Meaning, arg_tree}
 use Rattle.relation_terms.specs.declared.terms.keys.TyKey.{TyKey}
@@ -12,14 +14,100 @@ use Rattle.relation_terms.specs.declared.terms.keys.TysKey.{TysKey}
 use Rattle.relation_terms.specs.declared.terms.generic_arg.GenericArgKind.{GenericArgKind}
 use Rattle.relation_terms.specs.declared.terms.generic_arg.GenericArgKind.TheVariants.{Lifetime, Ty as TyArg}
 use Rattle.relation_terms.specs.declared.terms.generic_arg.GenericArgKind.TheVariants.{Const as ConstArg}
-use Rattle.relation_folds.specs.Clashes.{Clash, flexible, depth_inside}
+use Rattle.term_enums.specs.declared.Mutability.{Mutability}
+use Rattle.term_enums.specs.declared.Mutability.TheVariants.{Not, Mut}
+use Rattle.relation_folds.specs.Forms.{Alias}
+use Rattle.relation_folds.specs.Clashes.{Clash, OneOutline, flexible, may_stand, depth_inside, outline, pointer_form}
+use Rattle.relation_folds.specs.Clashes.{reference_form}
 use Rattle.fast_reject.specs.Pairs.{Pairs, IsInside, KnownPair, pair_size, ClashIn}
 use Rattle.fast_reject.specs.declared.pairs.Pair.{Pair}
 use Rattle.fast_reject.specs.declared.pairs.Pair.TheVariants.{Apart, Nothing, Types, Arrays, Lists, Args}
-use Rattle.fast_reject.proofs.Clashing.{forms_clash, parts_decide, moved}
+use Rattle.relation_folds.specs.Outlines.{stands}
+use Rattle.fast_reject.proofs.Clashing.{forms_clash, left_decides, parts_decide, moved, both}
 use Rattle.relation_terms.proofs.Members.{size_positive}
 
+-- A type that may stand for others is like none that may not.
+pointer_no_alias : (m : Mutability) → pointer_form m ≡ Alias → ⊥
+pointer_no_alias Not e = cc
+pointer_no_alias Mut e = cc
+
+reference_no_alias : (m : Mutability) → reference_form m ≡ Alias → ⊥
+reference_no_alias Not e = cc
+reference_no_alias Mut e = cc
+
+alias_stands : (r : Bool) (g : Head) (us : Tree) → head_sort g ≡ type_sort → (outline g us).form ≡ Alias →
+    flexible r (node g us) ≡ true
+alias_stands r (alias k i) us t e = refl
+alias_stands r (raw_ptr m) us t e = absurd (pointer_no_alias m e)
+alias_stands r (ref m) us t e = absurd (reference_no_alias m e)
+alias_stands r g us t e = absurd (cc)
+
+pub like_rigid : (l r : Bool) (a b : Tree) → tree_sort a ≡ type_sort → tree_sort b ≡ type_sort → (a ≡ b → ⊥) →
+    OneOutline a b → flexible r b ≡ false → flexible l a ≡ false
+like_rigid l r (node (alias k i) ts) (node g us) ta tb n s f =
+    absurd (both (alias_stands r g us tb (sym (ap (λ o. o.form) s))) f)
+like_rigid l r (node (unevaluated d) ts) (node g us) ta tb n s f = absurd (cc)
+like_rigid l r (node (expression k) ts) (node g us) ta tb n s f = absurd (cc)
+like_rigid l r (node h ts) (node g us) ta tb n s f = refl
+like_rigid l r (node h ts) (leaf x) ta tb n s f = absurd (n s)
+like_rigid l r (node h ts) (bind ks t) ta tb n s f = absurd (n s)
+like_rigid l r (node h ts) nil ta tb n s f = absurd (n s)
+like_rigid l r (node h ts) (cons t us) ta tb n s f = absurd (n s)
+like_rigid l r (leaf x) b ta tb n s f = absurd (n s)
+like_rigid l r (bind ks t) b ta tb n s f = absurd (n s)
+like_rigid l r nil b ta tb n s f = absurd (n s)
+like_rigid l r (cons t ts) b ta tb n s f = absurd (n s)
+
+-- Whether one stands for another, as it is told.
+one_inside : (v w : Bool) → Some v ≡ Some w → v ≡ w
+one_inside v w e = cc
+
+pub nothing_inside : (w : Bool) → None ≡ Some w → ⊥
+nothing_inside w e = cc
+
+pub told_some : (o : Option Bool) (w : Bool) → o ≡ Some w → (w ≡ true) ↔ (o ≡ Some true)
+told_some o w e = (λ i. e ∙ ap (λ x. Some x) i, λ h. one_inside w true (sym e ∙ h))
+
+pub told_none : (o : Option Bool) → ((w : Bool) → o ≡ Some w → ⊥) → (false ≡ true) ↔ (o ≡ Some true)
+told_none o n = (λ i. absurd (cc), λ h. absurd (n true h))
+
+same_answer : (w v : Bool) → (w ≡ true → v ≡ true) → (v ≡ true → w ≡ true) → w ≡ v
+same_answer true v f g = sym (f refl)
+same_answer false true f g = g refl
+same_answer false false f g = refl
+
+never_true : (w : Bool) → (w ≡ true → ⊥) → w ≡ false
+never_true true n = absurd (n refl)
+never_true false n = refl
+
+-- A test of two types of unlike forms answers whether the left one stands for the right.
+module _ (l r : Bool) (d : ℕ) (a b : Tree) (ta : tree_sort a ≡ type_sort) (tb : tree_sort b ≡ type_sort) (e : ℕ)
+    (w : Bool) (z : d ≡ suc e) (f : flexible r b ≡ false) (n : OneOutline a b → ⊥)
+    (o : (w ≡ true) ↔ (stands l a b ≡ Some true)) where
+  told_by : (p : Bool) → flexible l a ≡ p → (w ≡ false) ↔ Clash l r d a b
+  told_by true g =
+      let s : stands l a b ≡ Some (may_stand a b) = ap (λ p. cond p (Some (may_stand a b)) None) g in
+      let there : w ≡ true → may_stand a b ≡ true =
+      (λ i. one_inside (may_stand a b) true (sym s ∙ o.0 i)) in
+      let back : may_stand a b ≡ true → w ≡ true = (λ i. o.1 (s ∙ ap (λ x. Some x) i)) in
+      left_decides l r d a b ta tb e w z f g (same_answer w (may_stand a b) there back)
+  told_by false g =
+      let s : stands l a b ≡ None = ap (λ p. cond p (Some (may_stand a b)) None) g in
+      let never : w ≡ true → ⊥ = (λ i. nothing_inside true (sym s ∙ o.0 i)) in
+      (λ i. forms_clash l r d a b ta tb e z f g n, λ c. never_true w never)
+
+  pub apart_decides : (w ≡ false) ↔ Clash l r d a b
+  apart_decides = told_by (flexible l a) refl
+
 module _ {Key Id Name : Type 0} (m : Meaning Key Id Name) where
+  pub pairs_alike : (a b : Tree) (p : Pair Key) → Pairs m a b p → (p ≡ Apart → ⊥) → OneOutline a b
+  pairs_alike a b Apart s n = absurd (n refl)
+  pairs_alike a b Nothing s n = s.0
+  pairs_alike a b (Types t u) s n = s.0
+  pairs_alike a b (Arrays t u c k) s n = s.0
+  pairs_alike a b (Lists ts us) s n = s.0
+  pairs_alike a b (Args xs ys) s n = s.0
+
   pub pair_known : (a b : Tree) (p : Pair Key) → Pairs m a b p → KnownPair m p
   pair_known a b Apart s = tt
   pair_known a b Nothing s = s.1.0

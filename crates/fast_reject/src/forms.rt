@@ -1,5 +1,5 @@
 //! What the depth test reads of one outermost form: what it may stand for, and the depth inside it.
-ghost use Rattle.std.specs.Prelude.{◌≡◌, IsTrue};
+ghost use Rattle.std.specs.Prelude.{◌≡◌, ◌↔◌, true, Some, IsTrue};
 ghost use Rattle.relation_terms.specs.Trees.{known};
 ghost use Rattle.relation_terms.specs.Meaning.{Meaning, kind_tree, infer_tree, const_tree};
 ghost use Rattle.relation_folds.specs.Clashes.{may_stand, is_integral, is_floating_point, flexible, depth_inside};
@@ -99,6 +99,18 @@ pub fn may_stand_for<I: Interner>(
         | TyKind::Never
         | TyKind::Tuple(_)
         | TyKind::Placeholder(_) => None,
+    }
+}
+
+/// Whether a type stands for another: one that may stand for no others does not.
+pub fn stands_for<I: Interner>(cx: &I, kind: &TyForm<I>, params: bool, other: Ty<I>) -> bool
+    requires { IsTrue (known ((I.meaning cx.now).ty other)) }
+    ensures { IsTrue result ↔
+        (stands params (kind_tree (I.meaning cx.now) kind.now) ((I.meaning cx.now).ty other) ≡ Some true) }
+{
+    match may_stand_for(cx, kind, params, other) {
+        Some(may) => may,
+        None => false,
     }
 }
 

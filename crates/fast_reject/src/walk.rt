@@ -5,7 +5,7 @@ ghost use Rattle.relation_terms.specs.Meaning.{arg_tree};
 ghost use Rattle.fast_reject.specs.Pairs.{ClashAs, ClashIn, KnownPair};
 
 use crate::consts::consts_may_unify;
-use crate::forms::{Sides, depth_within, may_stand_for};
+use crate::forms::{Sides, depth_within, may_stand_for, stands_for};
 use crate::pairs::{Pair, paired};
 use relation_terms::terms::{GenericArg, GenericArgKind, Interner, Ty};
 
@@ -30,7 +30,8 @@ pub fn types_may_unify<I: Interner>(
 }
 
 // The same of types that differ. They are given by value, so that what stands in a reference, a pointer or a slice is
-// compared in the same round, and takes no call.
+// compared in the same round, and takes no call. A left type that may stand for others is like none that may not, so
+// only one of an unlike form is asked.
 #[cycle(clashes)]
 #[inline(never)]
 fn unlike_may_unify<I: Interner>(cx: &I, sides: Sides, lhs: Ty<I>, rhs: Ty<I>, depth: usize) -> bool
@@ -47,15 +48,17 @@ fn unlike_may_unify<I: Interner>(cx: &I, sides: Sides, lhs: Ty<I>, rhs: Ty<I>, d
     if depth == 0 {
         return true;
     }
-    if let Some(may) = may_stand_for(cx, &left, sides.left, rhs) {
-        return may;
+    let pair = paired(cx, &left, &right);
+    if let Pair::Apart = pair {
+        return stands_for(cx, &left, sides.left, rhs);
     }
     let inner = depth_within::<I>(&left, depth - 1);
-    pair_may_unify(cx, sides, paired(cx, &left, &right), inner)
+    pair_may_unify(cx, sides, pair, inner)
 }
 
 // Whether what is compared inside of two types may unify.
 #[cycle(clashes)]
+#[inline(always)]
 fn pair_may_unify<I: Interner>(cx: &I, sides: Sides, pair: Pair<I::Key>, depth: usize) -> bool
     requires { KnownPair (I.meaning cx.now) pair }
     ensures { IsFalse result ↔ ClashIn (I.meaning cx.now) sides.left sides.right depth pair }

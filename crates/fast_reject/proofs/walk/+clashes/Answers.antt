@@ -1,16 +1,17 @@
-use Rattle.std.proofs.Common.{rules, ◌≡◌, ◌≢◌, ◌⊎◌, ◌↔◌, ◌<◌, ◌+◌, ◌*◌, ◌-◌, suc, false, IsTrue, sym, ap, ◌∙◌, subst, subst₂, refl, arith}
+use Rattle.std.proofs.Common.{rules, ◌≡◌, ◌≢◌, ◌⊎◌, ◌↔◌, ◌<◌, ◌+◌, ◌*◌, ◌-◌, suc, false, true, Some, IsTrue, sym, ap, ◌∙◌, subst, subst₂, refl, arith}
 use Rattle.relation_terms.specs.Trees.{known, size, count, nth, list_tree}
 use Rattle.relation_terms.specs.Meaning.{arg_tree}
 use Rattle.relation_terms.specs.Parts.{tree_sort}
 use Rattle.relation_terms.proofs.Members.{type_term, const_term, region_term, member_small, slice_nth, slice_sure}
 use Rattle.relation_terms.proofs.Members.{list_count, list_is}
-use Rattle.relation_folds.specs.Clashes.{Clash, depth_inside}
+use Rattle.relation_folds.specs.Clashes.{Clash, OneOutline, depth_inside}
 use Rattle.fast_reject.specs.Pairs.{Pairs, KnownPair, ClashIn, pair_size}
 use Rattle.relation_folds.specs.Outlines.{stands}
-use Rattle.fast_reject.proofs.Clashing.{no_clash, right_decides, no_depth, left_decides, passes, fails, moved}
+use Rattle.fast_reject.proofs.Clashing.{no_clash, right_decides, no_depth, passes, fails, moved}
 use Rattle.fast_reject.proofs.Clashing.{rest_here, rest_further, rest_on, rest_none, shorter, quiet_clash, is_quiet}
 use Rattle.fast_reject.proofs.Clashing.{type_pair, const_pair}
 use Rattle.fast_reject.proofs.Outlining.{some_stands, none_stands}
+use Rattle.fast_reject.proofs.PairTests.{like_rigid, pairs_alike, apart_decides}
 use Rattle.fast_reject.proofs.PairTests.{pair_small, pair_known, pair_decides, apart_clash, no_pair_clash, types_clash}
 use Rattle.fast_reject.proofs.PairTests.{first_clash, second_clash, lists_clash, args_clash, other_than_ty, other_than_const}
 use Rattle.fast_reject.proofs.walk.+clashes.Goals as goal
@@ -58,35 +59,40 @@ unlike_may_unify-returns-then-depth-eq0 g t c =
     (c.may_stand_for.ensures ∙ ap (λ x. stands c.args.sides.right x a) (sym c.ty_kind-right.ensures)) c.in_default.not-Some in
     passes (no_depth c.args.sides.left c.args.sides.right c.args.depth a b ta tb f c.if-depth-eq0.true)
 
-pub unlike_may_unify-returns-in-Some-may_stand_for : goal.unlike_may_unify-returns-in-Some-may_stand_for
-unlike_may_unify-returns-in-Some-may_stand_for g t c =
+pub unlike_may_unify-paired-pair-requires-clause-differ : goal.unlike_may_unify-paired-pair-requires-clause-differ
+unlike_may_unify-paired-pair-requires-clause-differ g t c =
+    λ e. c.requires.differ (c.ty_kind-left.ensures ∙ e ∙ sym c.ty_kind-right.ensures)
+
+pub unlike_may_unify-returns-in-Apart : goal.unlike_may_unify-returns-in-Apart
+unlike_may_unify-returns-in-Apart g t c =
     let m = g.I.Interner.meaning c.args.cx.now in
+    let l = c.args.sides.left in
+    let r = c.args.sides.right in
     let a = m.ty c.args.lhs in
     let b = m.ty c.args.rhs in
     let ta = type_term a ((g.met.I.Interner.sorted c.args.cx.now).ty c.args.lhs c.requires.lhs_known) in
     let tb = type_term b ((g.met.I.Interner.sorted c.args.cx.now).ty c.args.rhs c.requires.rhs_known) in
-    let f = none_stands c.args.sides.right b a c.may_stand_for.result
-    (c.may_stand_for.ensures ∙ ap (λ x. stands c.args.sides.right x a) (sym c.ty_kind-right.ensures)) c.in_default.not-Some in
+    let f = none_stands r b a c.may_stand_for.result
+    (c.may_stand_for.ensures ∙ ap (λ x. stands r x a) (sym c.ty_kind-right.ensures)) c.in_default.not-Some in
     let n = c.if-depth-eq0.false in
     let z : c.args.depth ≡ suc (c.args.depth - 1) = omega (arith, n) in
-    let e = ap (λ x. stands c.args.sides.left x b) c.ty_kind-left.ensures ∙ sym c.may_stand_for-2.ensures
-    ∙ c.in-Some-may_stand_for.is in
-    let s = some_stands c.args.sides.left a b c.in-Some-may_stand_for.may e in
-    left_decides c.args.sides.left c.args.sides.right c.args.depth a b ta tb (c.args.depth - 1)
-    c.in-Some-may_stand_for.may z f (s.0) (s.1)
-
-pub unlike_may_unify-paired-requires-clause-differ : goal.unlike_may_unify-paired-requires-clause-differ
-unlike_may_unify-paired-requires-clause-differ g t c =
-    λ e. c.requires.differ (c.ty_kind-left.ensures ∙ e ∙ sym c.ty_kind-right.ensures)
+    let pairs : Pairs m a b c.paired-pair.result =
+    subst₂ (λ x y. Pairs m x y c.paired-pair.result) (sym c.ty_kind-left.ensures) (sym c.ty_kind-right.ensures)
+    c.paired-pair.ensures in
+    let apart : OneOutline a b → ⊥ = subst (λ x. Pairs m a b x) c.in-Apart.is pairs in
+    let told : (c.stands_for.result ≡ true) ↔ (stands l a b ≡ Some true) =
+    subst (λ x. (c.stands_for.result ≡ true) ↔ (stands l x b ≡ Some true)) (sym c.ty_kind-left.ensures)
+    c.stands_for.ensures in
+    apart_decides l r c.args.depth a b ta tb (c.args.depth - 1) c.stands_for.result z f apart told
 
 pub unlike_may_unify-pair_may_unify-requires : goal.unlike_may_unify-pair_may_unify-requires
 unlike_may_unify-pair_may_unify-requires g t' c κs within =
     let m = g.I.Interner.meaning c.args.cx.now in
     let a = m.ty c.args.lhs in
     let b = m.ty c.args.rhs in
-    let p = c.paired.result in
+    let p = c.paired-pair.result in
     let pairs : Pairs m a b p =
-    subst₂ (λ x y. Pairs m x y p) (sym c.ty_kind-left.ensures) (sym c.ty_kind-right.ensures) c.paired.ensures in
+    subst₂ (λ x y. Pairs m x y p) (sym c.ty_kind-left.ensures) (sym c.ty_kind-right.ensures) c.paired-pair.ensures in
     let d = c.decreases in
     let less = pair_small m a b p pairs in
     let small : 3 * pair_size m p + 2 < 3 * size a = omega (arith, less) in
@@ -104,13 +110,12 @@ unlike_may_unify-returns g t c =
     let tb = type_term b ((g.met.I.Interner.sorted c.args.cx.now).ty c.args.rhs c.requires.rhs_known) in
     let f = none_stands r b a c.may_stand_for.result
     (c.may_stand_for.ensures ∙ ap (λ x. stands r x a) (sym c.ty_kind-right.ensures)) c.in_default.not-Some in
-    let h = none_stands l a b c.may_stand_for-2.result
-    (c.may_stand_for-2.ensures ∙ ap (λ x. stands l x b) (sym c.ty_kind-left.ensures)) c.in_default-may_stand_for.not-Some in
     let n = c.if-depth-eq0.false in
     let z : c.args.depth ≡ suc (c.args.depth - 1) = omega (arith, n) in
-    let p = c.paired.result in
+    let p = c.paired-pair.result in
     let pairs : Pairs m a b p =
-    subst₂ (λ x y. Pairs m x y p) (sym c.ty_kind-left.ensures) (sym c.ty_kind-right.ensures) c.paired.ensures in
+    subst₂ (λ x y. Pairs m x y p) (sym c.ty_kind-left.ensures) (sym c.ty_kind-right.ensures) c.paired-pair.ensures in
+    let h = like_rigid l r a b ta tb c.requires.differ (pairs_alike m a b p pairs c.in_default-pair.not-Apart) f in
     let inner : c.depth_within-inner.result ≡ depth_inside a (c.args.depth - 1) =
     c.depth_within-inner.ensures m ∙ ap (λ x. depth_inside x (c.args.depth - 1)) (sym c.ty_kind-left.ensures) in
     pair_decides m l r c.args.depth a b ta tb (c.args.depth - 1) c.pair_may_unify.result z f h p pairs
