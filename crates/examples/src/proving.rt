@@ -246,18 +246,19 @@ fn told_of_vec<I: Interner + Drop>(
     told_by(cx, for_vecs, had, goal, depth)
 }
 
-// What is told of a type, where the environment has it of the type parameter and of bytes.
+// What is told of a type, where the environment has it of the type parameter and of another type.
 fn told_of_given<I: Interner + Drop>(
     mut cx: I,
     items: Items<I::Id>,
     name: I::Name,
+    other: Inner,
     inner: Inner,
 ) -> RelateResult<I, Option<Told>> {
     let of_param = make_had(&mut cx, items.ranked, name, Inner::Param)?;
-    let of_byte = make_had(&mut cx, items.ranked, name, Inner::Byte)?;
+    let of_other = make_had(&mut cx, items.ranked, name, other)?;
     let ty = make_inner(&mut cx, name, inner)?;
     let goal = make_ranked(&mut cx, items.ranked, ty)?;
-    told_by(cx, of_param, of_byte, goal, 1)
+    told_by(cx, of_param, of_other, goal, 1)
 }
 
 // An item with one type parameter.
@@ -285,18 +286,25 @@ fn told_of(alloc: Global, inner: Inner, depth: usize) -> RelateResult<RefInterne
     told_of_vec(cx, items, SymbolId(0), inner, depth)
 }
 
-fn told_alone(alloc: Global, inner: Inner) -> RelateResult<RefInterner, Option<Told>> {
+fn told_alone(
+    alloc: Global,
+    other: Inner,
+    inner: Inner,
+) -> RelateResult<RefInterner, Option<Told>> {
     let mut cx = RefInterner::new(alloc);
     let items = add_items(&mut cx, alloc)?;
-    told_of_given(cx, items, SymbolId(0), inner)
+    told_of_given(cx, items, SymbolId(0), other, inner)
 }
 
 #[test]
 fn goals_follow_or_not(rt: HostRuntime) -> Result<(), Fail> {
-    assert!(rt; told_of(rt.alloc(), Inner::Param, 3) == Ok(Some(Told::Yes)));
-    assert!(rt; told_of(rt.alloc(), Inner::Byte, 3) == Ok(Some(Told::No)));
-    assert!(rt; told_of(rt.alloc(), Inner::Variable, 3) == Ok(Some(Told::Maybe(Why::Depth))));
-    assert!(rt; told_alone(rt.alloc(), Inner::Byte) == Ok(Some(Told::Yes)));
-    assert!(rt; told_alone(rt.alloc(), Inner::Variable) == Ok(Some(Told::Maybe(Why::Ambiguous))));
+    let alloc = rt.alloc();
+    assert!(rt; told_of(alloc, Inner::Param, 3) == Ok(Some(Told::Yes)));
+    assert!(rt; told_of(alloc, Inner::Byte, 3) == Ok(Some(Told::No)));
+    assert!(rt; told_of(alloc, Inner::Variable, 3) == Ok(Some(Told::Maybe(Why::Depth))));
+    assert!(rt; told_alone(alloc, Inner::Byte, Inner::Byte) == Ok(Some(Told::Yes)));
+    assert!(rt; told_alone(alloc, Inner::Param, Inner::Param) == Ok(Some(Told::Yes)));
+    let ambiguous = Ok(Some(Told::Maybe(Why::Ambiguous)));
+    assert!(rt; told_alone(alloc, Inner::Byte, Inner::Variable) == ambiguous);
     Ok(())
 }

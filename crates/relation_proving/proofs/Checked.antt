@@ -1,9 +1,9 @@
 -- What a test of a goal, of a rule's clause and of a rule says.
 use Rattle.std.proofs.Common.{◌≡◌, ◌↔◌, refl, sym, ◌∙◌, subst, List, [], ◌∷◌, Option, Some, None, Bool, true, false}
-use Rattle.std.proofs.Common.{IsTrue, All, Result, Ok, Err}
+use Rattle.std.proofs.Common.{IsTrue, All, Result, Ok, Err, ℕ, ◌<◌, length, get_or}
 use Rattle.std.specs.Prelude.{is_ok, OnOk, OnErr, IsSome}
 use Rattle.std.proofs.lemmas.Bool.{false≢true}
-use Rattle.std.proofs.lemmas.List.Elements.{All-nil, All-cons, All-head, All-tail}
+use Rattle.std.proofs.lemmas.List.Elements.{All-nil, All-cons, All-head, All-tail, All-get_or}
 use Rattle.relation_terms.specs.declared.predicate.trait_ref.TraitPredicate.{TraitPredicate}
 use Rattle.relation_terms.specs.declared.terms.binder.Binder.{Binder}
 use Rattle.relation_terms.specs.declared.terms.keys.BoundVarsKey.{BoundVarsKey}
@@ -17,6 +17,7 @@ use Rattle.relation_terms.proofs.Binders.{under_known, known_under}
 use Rattle.relation_semantics.specs.Contexts.{Context}
 use Rattle.relation_semantics.specs.Stores.{Store, InContext, IsTermIn}
 use Rattle.may_relate.specs.Fitting.{MayBeRelated}
+use Rattle.relation_proving.proofs.OpenedRules.{each_known}
 use Rattle.relation_proving.specs.RuleTerms.{KnowsRule, rule_tree}
 use Rattle.relation_proving.specs.Checking.{AreOfTraits, IsTraitGoal, IsTraitPart, IsTraitRule}
 
@@ -156,3 +157,11 @@ module _ {Key Id Name : Type 0} where
   pub list_known : (m : Meaning Key Id Name) (k : Binder Key (ClausesKey Key)) → IsTrue (known (rule_tree m k)) →
       IsSome (m.bound_vars k.bound_vars)
   list_known m k h = (under_known (m.bound_vars k.bound_vars) (m.clauses k.value) h).0
+
+  -- Each clause of a known rule is known.
+  pub part_at : (m : Meaning Key Id Name) (k : Binder Key (ClausesKey Key)) (xs : List (ClauseKey Key)) (i : ℕ)
+      (x : ClauseKey Key) → IsTrue (known (rule_tree m k)) → m.clauses k.value ≡ list_tree m.clause xs →
+      i < length xs → x ≡ get_or xs i x → IsTrue (known (m.clause x))
+  part_at m k xs i x h e l is = subst (λ (z : ClauseKey Key). IsTrue (known (m.clause z))) (sym is)
+      (All-get_or (λ (z : ClauseKey Key). IsTrue (known (m.clause z))) xs i x l
+      (each_known m.clause xs (subst (λ t. IsTrue (known t)) e (clauses_known m k h))))

@@ -4,6 +4,8 @@ pub mod Unbound
 pub mod Candidates
 pub mod GoingOn
 pub mod Answering
+pub mod OneValue
+pub mod OtherTraits
 pub mod Searches
 pub mod Meaning
 pub mod Checked

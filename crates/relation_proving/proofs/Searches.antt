@@ -1,6 +1,6 @@
 -- What is known of the rules for a goal, as they are gone through.
-use Rattle.std.proofs.Common.{◌≡◌, ℕ, ◌+◌, ◌<◌, ◌≤◌, List, [], ◌∷◌, ◌++◌, sym, subst, All, length}
-use Rattle.std.proofs.Common.{get_or, take, arith}
+use Rattle.std.proofs.Common.{◌≡◌, ◌⊎◌, ℕ, ◌+◌, ◌<◌, ◌≤◌, List, [], ◌∷◌, ◌++◌, refl, sym, subst, All, length}
+use Rattle.std.proofs.Common.{get_or, take, arith, inl, inr, Bool, true, false}
 use Rattle.std.specs.Prelude.{Contains}
 use Rattle.std.specs.List.{AllZip}
 use Rattle.std.proofs.lemmas.List.{take_all, take_more}
@@ -15,9 +15,10 @@ use Rattle.relation_terms.proofs.Stays.{extends_on, stays_same}
 use Rattle.relation_semantics.specs.Contexts.{Context, KnowsEnv}
 use Rattle.relation_semantics.specs.Lawful.{items_of}
 use Rattle.relation_semantics.specs.Steps.{IsLater}
+use Rattle.relation_semantics.specs.Stores.{Store, IsSound}
 use Rattle.kept_records.specs.Records.{SameRecord, IsRecordOf, StandsOn}
 use Rattle.relation_solver.specs.Rules.{Rule, given, one}
-use Rattle.relation_solver.specs.Traces.{Did, goal, rule, yes, no, FollowsBy, Proves}
+use Rattle.relation_solver.specs.Traces.{Did, goal, rule, yes, no, FollowsBy, Proves, took_first}
 use Rattle.relation_solver.proofs.Going.{AllFail, AllOthersFail, one_more_fails, first_found, one_other_fails, all_fail}
 use Rattle.relation_solver.proofs.Going.{takes_alone}
 use Rattle.kept_records.proofs.Kept.{may_put_back, put_back_is, put_back_means}
@@ -35,6 +36,7 @@ use Rattle.relation_proving.specs.RuleTerms.{IsRuleOf}
 use Rattle.relation_proving.specs.Searching.{search_after, told_by, settled, HasKept, KeepsTold, MaySettle, TellsTried}
 use Rattle.relation_proving.proofs.GoingOn.{zip_length, zip_at, goes_through, back_through, back_goes}
 use Rattle.relation_proving.proofs.Answering.{rule_back}
+use Rattle.relation_proving.proofs.OneValue.{HasOneValue}
 
 -- Which rule a place's key is, as a tree.
 abbrev pub rule_at : List Rule → ℕ → Rule
@@ -53,12 +55,12 @@ module _ {S R Key Id Name : Type 0} (state : S → Context Key Id Name) (with_re
 
   module _ (c : Context Key Id Name) (ks : List (Binder Key (ClausesKey Key))) (env : ParamEnvKey Key)
       (g : ClauseKey Key) where
-    -- By the first n rules it follows by one alone.
+    -- By the first n rules it follows by one alone, or by one where that is enough.
     pub record Only (there : S) (n u : ℕ) (rs : List Rule) : Type 0 where
       pub by : Rule
       pub follows : FollowsBy u [] rs c.store (state there).store by (goal_tree c g)
       pub store : IsFirstOrderAt u (state there).store
-      pub others : AllOthersFail u [] rs c.store by (goal_tree c g) (take n rs)
+      pub others : HasOneValue c.store (goal_tree c g) ⊎ AllOthersFail u [] rs c.store by (goal_tree c g) (take n rs)
 
     -- What is known of the first n rules.
     abbrev pub TellsSearch : S → ℕ → Search R → Type 0
@@ -131,10 +133,31 @@ module _ {S R Key Id Name : Type 0} (state : S → Context Key Id Name) (with_re
         known = h.known;
       }
 
-      after : (search : Search R) (tried : Tried R) → TellsSearch now n search →
+      -- One rule more fails: what stood of the others stands.
+      others_stand : (by : Rule) (u : ℕ) (rs : List Rule) (x : IsExact u c ks rs) →
+          Did u [] rs c.store (rule (rule_at rs n) (goal_tree c g)) no →
+          HasOneValue c.store (goal_tree c g) ⊎ AllOthersFail u [] rs c.store by (goal_tree c g) (take n rs) →
+          HasOneValue c.store (goal_tree c g) ⊎ AllOthersFail u [] rs c.store by (goal_tree c g) (take (n + 1) rs)
+      others_stand by u rs x d (inl o) = inl o
+      others_stand by u rs x d (inr o) = inr (subst (AllOthersFail u [] rs c.store by (goal_tree c g))
+          (sym (one_more u rs x)) (one_other_fails u [] rs c.store (goal_tree c g) (take n rs) by (rule_at rs n) o d))
+
+      -- It follows by this one, which is enough.
+      first_is : HasOneValue c.store (goal_tree c g) → (r : R) →
+          TellsTried state with_record (state now) then ks env k g (Follows r) → TellsSearch then (n + 1) (Found r)
+      first_is o r t = (
+        kept_before r t.0,
+        λ u rs x f.
+            let p = follows (state (t.0).where_kept) t.1 u rs x f in
+            record { by = rule_at rs n; follows = p.follows; store = p.store; others = inl o },
+        proved (state (t.0).where_kept) t.1,
+      )
+
+      after : (enough : Bool) → (enough ≡ true → HasOneValue c.store (goal_tree c g)) → (search : Search R)
+          (tried : Tried R) → TellsSearch now n search →
           TellsTried state with_record (state now) then ks env k g tried →
-          TellsSearch then (n + 1) (search_after search tried)
-      after Nothing (Follows r) s t = (
+          TellsSearch then (n + 1) (search_after enough search tried)
+      after enough o Nothing (Follows r) s t = (
         kept_before r t.0,
         λ u rs x f.
             let p = follows (state (t.0).where_kept) t.1 u rs x f in
@@ -142,46 +165,54 @@ module _ {S R Key Id Name : Type 0} (state : S → Context Key Id Name) (with_re
               by = rule_at rs n;
               follows = p.follows;
               store = p.store;
-              others = subst (AllOthersFail u [] rs c.store (rule_at rs n) (goal_tree c g)) (sym (one_more u rs x))
-                  (first_found u [] rs c.store (goal_tree c g) (take n rs) (rule_at rs n) (s u rs x f));
+              others = inr (subst (AllOthersFail u [] rs c.store (rule_at rs n) (goal_tree c g)) (sym (one_more u rs x))
+                  (first_found u [] rs c.store (goal_tree c g) (take n rs) (rule_at rs n) (s u rs x f)));
             },
         proved (state (t.0).where_kept) t.1,
       )
-      after Nothing Fails s t = λ u rs x f.
+      after enough o Nothing Fails s t = λ u rs x f.
           subst (AllFail u [] rs c.store (goal_tree c g)) (sym (one_more u rs x))
           (one_more_fails u [] rs c.store (goal_tree c g) (take n rs) (rule_at rs n) (s u rs x f)
           (fails (state then) t u rs x f))
-      after Nothing (Unclear why) s t = tt
-      after (Found r) (Follows q) s t = tt
-      after (Found r) Fails s t = (
+      after enough o Nothing (Unclear why) s t = tt
+      after true o (Found r) tried s t = (
         kept_on c now then r b'.grown s.0,
         λ u rs x f.
-            let o = s.1 u rs x f in
+            let p = s.1 u rs x f in
+            record { by = p.by; follows = p.follows; store = p.store; others = inl (o refl) },
+        s.2,
+      )
+      after false o (Found r) (Follows q) s t = tt
+      after false o (Found r) Fails s t = (
+        kept_on c now then r b'.grown s.0,
+        λ u rs x f.
+            let p = s.1 u rs x f in
             record {
-              by = o.by;
-              follows = o.follows;
-              store = o.store;
-              others = subst (AllOthersFail u [] rs c.store o.by (goal_tree c g)) (sym (one_more u rs x))
-                  (one_other_fails u [] rs c.store (goal_tree c g) (take n rs) o.by (rule_at rs n) o.others
-                  (fails (state then) t u rs x f));
+              by = p.by;
+              follows = p.follows;
+              store = p.store;
+              others = others_stand p.by u rs x (fails (state then) t u rs x f) p.others;
             },
         s.2,
       )
-      after (Found r) (Unclear why) s t = tt
-      after (Open why) (Follows q) s t = tt
-      after (Open why) Fails s t = tt
-      after (Open why) (Unclear again) s t = tt
+      after false o (Found r) (Unclear why) s t = tt
+      after enough o (Open why) Fails s t = tt
+      after enough o (Open why) (Unclear again) s t = tt
+      after true o (Open why) (Follows q) s t = first_is (o refl) q t
+      after false o (Open why) (Follows q) s t = tt
 
-      pub search_goes_on : (search : Search R) (tried : Tried R) → TellsSearch now n search →
+      pub search_goes_on : (enough : Bool) → (enough ≡ true → HasOneValue c.store (goal_tree c g)) →
+          (search : Search R) (tried : Tried R) → TellsSearch now n search →
           TellsTried state with_record (state now) then ks env k g tried →
-          Searches then (n + 1) (search_after search tried)
-      search_goes_on search tried s t = record {
+          Searches then (n + 1) (search_after enough search tried)
+      search_goes_on enough o search tried s t = record {
         back = back_through c (state now) (state then) b b';
-        tells = after search tried s t;
+        tells = after enough o search tried s t;
       }
 
     -- All rules were tried.
-    module _ (stands : (r : R) → StandsOn state with_record r) (now : S) (n : ℕ) (all : length ks ≤ n) where
+    module _ (stands : (r : R) → StandsOn state with_record r) (sound : (x : S) → (state x).lawful → IsSound (state x).store)
+        (now : S) (n : ℕ) (all : length ks ≤ n) where
       whole : (u : ℕ) (rs : List Rule) → IsExact u c ks rs → take n rs ≡ rs
       whole u rs x =
           let same = zip_length (IsFirstOrderRule c) ks rs x.rules in
@@ -207,6 +238,19 @@ module _ {S R Key Id Name : Type 0} (state : S → Context Key Id Name) (with_re
       }
       settled_goes (Open why) b s = back_goes c (state now) b
 
+      -- The one by which it follows is taken alone, or first.
+      takes_one : (there : S) (u : ℕ) (rs : List Rule) → (state there).lawful → IsExact u c ks rs → Only there n u rs →
+          Did u [] rs c.store (goal (goal_tree c g)) (yes (state there).store)
+      takes_one there u rs l x p = go p.others
+        where
+          go : HasOneValue c.store (goal_tree c g) ⊎ AllOthersFail u [] rs c.store p.by (goal_tree c g) (take n rs) →
+              Did u [] rs c.store (goal (goal_tree c g)) (yes (state there).store)
+          go (inl o) = let f = p.follows in
+              took_first c.store f.middle (state there).store p.by f.vars (goal_tree c g) f.there f.takes f.asks
+              (sound there l) o
+          go (inr o) = takes_alone u [] rs c.store (state there).store p.by (goal_tree c g) p.follows
+              (subst (AllOthersFail u [] rs c.store p.by (goal_tree c g)) (whole u rs x) o)
+
       settled_tells : (search : Search R) → IsBack c (state now) → TellsSearch now n search →
           TellsGoal c (state (settled with_record now search)) ks env g (told_by search)
       settled_tells Nothing b s = (
@@ -220,8 +264,7 @@ module _ {S R Key Id Name : Type 0} (state : S → Context Key Id Name) (with_re
                 let o = s.1 u rs x f in
                 record {
                   did = subst (λ z. Did u [] rs c.store (goal (goal_tree c g)) (yes z)) (sym same)
-                      (takes_alone u [] rs c.store (state (s.0).where_kept).store o.by (goal_tree c g) o.follows
-                      (subst (AllOthersFail u [] rs c.store o.by (goal_tree c g)) (whole u rs x) o.others));
+                      (takes_one (s.0).where_kept u rs ((s.0).goes_on).lawful x o);
                   store = subst (IsFirstOrderAt u) (sym same) o.store;
                 },
             λ rs x. subst (λ z. Proves (items_of c.meaning) ((c.meaning).param_env env) z.universe [] rs [] c.store

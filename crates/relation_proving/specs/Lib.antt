@@ -1,6 +1,7 @@
 pub mod RuleTerms
 pub mod Fitting
 pub mod Bodies
+pub mod Traits
 pub mod Candidates
 pub mod Telling
 pub mod Searching

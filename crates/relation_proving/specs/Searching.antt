@@ -5,10 +5,10 @@
 --   TellsRound c d ks e gs round          what is told of the goals of a list, asked one after another
 --   KeepsTold state with_record now     what was kept of an answer
 --   TellsTried ..                       what is told of a rule that was tried, once the record is put back
---   search_after search tried           what is known of the rules with one more
+--   search_after enough search tried    what is known of the rules with one more
 --   told_by search                      what that tells of the goal
 --   settled with_record now search      the context once that is told
-use Rattle.std.specs.Prelude.{◌≡◌, ℕ, ◌<◌, List, length, get_or}
+use Rattle.std.specs.Prelude.{◌≡◌, ℕ, ◌<◌, Bool, true, false, List, length, get_or}
 use Rattle.relation_terms.specs.declared.terms.binder.Binder.{Binder}
 use Rattle.relation_terms.specs.declared.terms.keys.ClauseKey.{ClauseKey}
 use Rattle.relation_terms.specs.declared.terms.keys.ClausesKey.{ClausesKey}
@@ -33,17 +33,20 @@ abbrev pub worse_of : Why → Why → Why
 worse_of Depth b = Depth
 worse_of Ambiguous b = b
 
--- What is known of rules, with one more that was tried.
-abbrev pub search_after : {R : Type 0} → Search R → Tried R → Search R
-search_after Nothing (Follows r) = Found r
-search_after Nothing Fails = Nothing
-search_after Nothing (Unclear why) = Open why
-search_after (Found r) (Follows q) = Open Ambiguous
-search_after (Found r) Fails = Found r
-search_after (Found r) (Unclear why) = Open why
-search_after (Open why) (Follows q) = Open why
-search_after (Open why) Fails = Open why
-search_after (Open why) (Unclear again) = Open (worse_of why again)
+-- What is known of rules, with one more that was tried; of a goal of which one answer is enough the first by which it
+-- follows counts.
+abbrev pub search_after : {R : Type 0} → Bool → Search R → Tried R → Search R
+search_after enough Nothing (Follows r) = Found r
+search_after enough Nothing Fails = Nothing
+search_after enough Nothing (Unclear why) = Open why
+search_after true (Found r) tried = Found r
+search_after false (Found r) (Follows q) = Open Ambiguous
+search_after false (Found r) Fails = Found r
+search_after false (Found r) (Unclear why) = Open why
+search_after enough (Open why) Fails = Open why
+search_after enough (Open why) (Unclear again) = Open (worse_of why again)
+search_after true (Open why) (Follows r) = Found r
+search_after false (Open why) (Follows r) = Open why
 
 -- What that tells of the goal, and the context then.
 abbrev pub told_by : {R : Type 0} → Search R → Told

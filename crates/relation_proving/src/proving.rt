@@ -11,6 +11,7 @@ ghost use Rattle.relation_proving.specs.Answers.{NoFollowsNever, LeavesNothing};
 
 use crate::candidate::{Candidate, try_rule};
 use crate::opening::RuleOf;
+use crate::reading::{comes_to_one, gives_another_trait};
 use crate::searching::{Round, Search, Tried, keep_told, settle, with_tried, worse};
 pub use crate::told::{Told, Why};
 use kept_records::KeepsRecord;
@@ -23,10 +24,11 @@ use relation_terms::terms::{Clause, ParamEnv, Span};
 ///
 /// Each rule is opened, and what it gives is related with the goal; what it asks for is proved in turn, at one less
 /// depth, in rounds: what isn't told of a goal is asked again once another was proved. It is `Yes` where the goal
-/// follows by one rule alone and no other is left, and the record is then what that one leaves. Where more than one
-/// rule is left it is `Maybe(Ambiguous)`, and so it is where a binder that binds something, another predicate than that
-/// a trait is implemented, or a goal that relating leaves stands in the way; where the depth is spent,
-/// `Maybe(Depth)`, which counts first.
+/// follows by one rule alone and no other is left, and where it follows by one at all if no variable but of regions
+/// stands in it; the record is then what the first of these leaves. Where more than one rule is left it is
+/// `Maybe(Ambiguous)`, and so it is where a binder that binds something, another predicate than that a trait is
+/// implemented, or a goal that relating leaves stands in the way; where the depth is spent, `Maybe(Depth)`, which
+/// counts first.
 ///
 /// The interner has to know the environment, the rules and the goal, whose binders bind by their lists; their variables
 /// and placeholders are the context's. Where no variable stands in a rule, each assignment that satisfies what is
@@ -80,15 +82,16 @@ fn follows<C: KeepsRecord>(
     if depth == 0 {
         return Ok(Told::Maybe(Why::Depth));
     }
+    let enough = comes_to_one(&*ctx, goal);
     let mut search = Search::Nothing;
     for rule in rules {
         let tried = try_and_put_back(ctx, rules, param_env, *rule, goal, depth - 1, span)?;
-        search = with_tried(search, tried);
+        search = with_tried(search, tried, enough);
     }
     Ok(settle(ctx, search))
 }
 
-// Tries a rule, and puts the record back.
+// Tries a rule, and puts the record back. One that gives another trait is told apart before.
 #[cycle(proving)]
 fn try_and_put_back<C: KeepsRecord>(
     ctx: &mut C,
@@ -107,6 +110,9 @@ fn try_and_put_back<C: KeepsRecord>(
     ensures tells { let c = C.state ctx.old in
         IfOk result (TellsTried C.state C.with_record c ctx.new rules.now param_env rule goal.now) }
 {
+    if gives_another_trait(ctx.cx(), &rule, goal) {
+        return Ok(Tried::Fails);
+    }
     let before = ctx.keep()?;
     let told = follows_by(ctx, rules, param_env, rule, goal, depth, span)?;
     let tried = keep_told(&*ctx, told)?;

@@ -49,9 +49,9 @@ pub(crate) fn worse(first: Why, second: Why) -> Why
     }
 }
 
-/// What is known with one rule more.
-pub(crate) fn with_tried<R: Drop>(search: Search<R>, tried: Tried<R>) -> Search<R>
-    ensures { result ≡ search_after search tried }
+/// What is known with one rule more. Where one answer is enough the first rule counts by which the goal follows.
+pub(crate) fn with_tried<R: Drop>(search: Search<R>, tried: Tried<R>, enough: bool) -> Search<R>
+    ensures { result ≡ search_after enough search tried }
 {
     match search {
         Search::Nothing => match tried {
@@ -59,13 +59,23 @@ pub(crate) fn with_tried<R: Drop>(search: Search<R>, tried: Tried<R>) -> Search<
             Tried::Fails => Search::Nothing,
             Tried::Unclear(why) => Search::Open(why),
         },
-        Search::Found(record) => match tried {
-            Tried::Follows(_) => Search::Open(Why::Ambiguous),
-            Tried::Fails => Search::Found(record),
-            Tried::Unclear(why) => Search::Open(why),
-        },
+        Search::Found(record) => {
+            if enough {
+                return Search::Found(record);
+            }
+            match tried {
+                Tried::Follows(_) => Search::Open(Why::Ambiguous),
+                Tried::Fails => Search::Found(record),
+                Tried::Unclear(why) => Search::Open(why),
+            }
+        }
         Search::Open(why) => match tried {
-            Tried::Follows(_) => Search::Open(why),
+            Tried::Follows(record) => {
+                if enough {
+                    return Search::Found(record);
+                }
+                Search::Open(why)
+            }
             Tried::Fails => Search::Open(why),
             Tried::Unclear(again) => Search::Open(worse(why, again)),
         },

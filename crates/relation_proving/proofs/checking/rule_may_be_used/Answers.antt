@@ -5,12 +5,12 @@ use Rattle.std.proofs.lemmas.List.{take_all}
 use Rattle.std.proofs.lemmas.List.Elements.{All-nil, All-more, All-get_or}
 use Rattle.relation_terms.specs.Trees.{known, list_tree}
 use Rattle.relation_proving.specs.Checking.{IsTraitPart}
-use Rattle.relation_proving.proofs.OpenedRules.{each_known}
-use Rattle.relation_proving.proofs.Checked.{all_passed, none_passed, rule_of_parts, parts_of_rule, clauses_known, list_known}
+use Rattle.relation_proving.proofs.Checked.{all_passed, none_passed, rule_of_parts, parts_of_rule, clauses_known}
+use Rattle.relation_proving.proofs.Checked.{list_known, part_at}
 use Rattle.relation_proving.proofs.checking.rule_may_be_used.Goals as goal
 
-pub clauses-requires : goal.clauses-requires
-clauses-requires g c =
+pub clauses-clauses-requires : goal.clauses-clauses-requires
+clauses-clauses-requires g c =
     subst (λ m. IsTrue (known (m.clauses (c.args.rule.now).value))) (sym c.cx-cx.ensures)
     (clauses_known (g.C.InferCtxtLike.state c.args.ctx.now).meaning c.args.rule.now c.requires)
 
@@ -23,13 +23,10 @@ clause_may_stand-requires g c =
     let xs = c.clauses-clauses.result.now in
     let e = subst (λ n. n.clauses (c.args.rule.now).value ≡ list_tree n.clause xs) c.cx-cx.ensures
     c.clauses-clauses.ensures in
-    let here = λ k. IsTrue (known (m.clause k)) in
-    let all = each_known m.clause xs
-    (subst (λ t. IsTrue (known t)) e (clauses_known m c.args.rule.now c.requires)) in
     record {
       list_known = list_known m c.args.rule.now c.requires;
-      clause_known = subst here (sym c.clause-item.is)
-          (All-get_or here xs c.loop-clause.clause-index c.clause-item.result c.loop-clause-test.true all);
+      clause_known = part_at m c.args.rule.now xs c.loop-clause.clause-index c.clause-item.result c.requires e
+          c.loop-clause-test.true c.clause-item.is;
     }
 
 pub loop-clause-preserved : goal.loop-clause-preserved

@@ -1,10 +1,14 @@
 -- What each call asks for and tells.
-use Rattle.std.proofs.Common.{rules, arith, ◌≤◌, ◌+◌, sym, subst, length, All}
+use Rattle.std.proofs.Common.{rules, arith, ◌≤◌, ◌+◌, sym, subst, length, All, IsTrue}
+use Rattle.relation_terms.specs.Trees.{known}
 use Rattle.kept_records.proofs.Kept.{may_put_back}
 use Rattle.relation_proving.specs.declared.searching.Round.TheVariants.{Proved, Failed}
 use Rattle.relation_proving.specs.Candidates.{MayAsk, TellsCandidate}
-use Rattle.relation_proving.specs.RuleTerms.{MayUse}
-use Rattle.relation_proving.specs.Telling.{GoesOn, TellsGoal}
+use Rattle.relation_proving.specs.RuleTerms.{MayUse, rule_tree}
+use Rattle.relation_proving.specs.Traits.{GivesAnother}
+use Rattle.relation_proving.proofs.OtherTraits.{another_fails}
+use Rattle.relation_proving.specs.Telling.{GoesOn, TellsGoal, goal_tree}
+use Rattle.relation_proving.proofs.OneValue.{comes_to_one}
 use Rattle.relation_proving.specs.Searching.{TellsRound}
 use Rattle.relation_proving.proofs.GoingOn.{goes_itself, goes_through, back_itself, back_through, back_goes}
 use Rattle.relation_proving.proofs.GoingOn.{uses_on, proves_on, ask_on, asks_on}
@@ -15,6 +19,9 @@ use Rattle.relation_proving.proofs.Searches.{settles_tells, tried_tells, put_bac
 use Rattle.relation_proving.proofs.proving.+proving.Goals as goal
 
 -- A goal.
+pub follows-comes_to_one-enough-requires : goal.follows-comes_to_one-enough-requires
+follows-comes_to_one-enough-requires g t c = c.requires.goal.is_known
+
 pub follows-returns-then-depth-eq0 : goal.follows-returns-then-depth-eq0
 follows-returns-then-depth-eq0 g t c =
     let s = g.C.InferCtxtLike.state c.args.ctx.now in
@@ -54,8 +61,10 @@ follows-loop-rule-preserved g t c =
     c.try_and_put_back.new.ctx (c.loop-rule.rule-index + 1)) (sym c.with_tried-search.ensures)
     (search_goes_on g.C.InferCtxtLike.state g.C.KeepsRecord.with_record s c.args.rules.now c.args.param_env c.args.goal.now
     c.loop-rule.ctx c.try_and_put_back.new.ctx c.loop-rule.rule-index c.rule-item.result c.loop-rule-test.true
-    c.rule-item.is c.requires.may.env_known c.requires.may.rules c.requires.goal inv.back c.in_ok-tried.ensures.back c.loop-rule.search
-    c.in_ok-tried.tried inv.tells c.in_ok-tried.ensures.tells)
+    c.rule-item.is c.requires.may.env_known c.requires.may.rules c.requires.goal inv.back c.in_ok-tried.ensures.back
+    c.comes_to_one-enough.result (λ e. comes_to_one s.store (goal_tree s c.args.goal.now) c.comes_to_one-enough.result
+    c.requires.goal.is_in c.comes_to_one-enough.ensures e) c.loop-rule.search c.in_ok-tried.tried inv.tells
+    c.in_ok-tried.ensures.tells)
 
 pub follows-settle-requires : goal.follows-settle-requires
 follows-settle-requires g t c =
@@ -63,7 +72,7 @@ follows-settle-requires g t c =
     let test = c.loop-rule-test.false in
     record {
       may = may_settle g.C.InferCtxtLike.state g.C.KeepsRecord.with_record s c.args.rules.now c.args.param_env c.args.goal.now
-          g.met.C.KeepsRecord.stands c.loop-rule.ctx c.loop-rule.rule-index (omega (arith, test)) c.loop-rule.search
+          g.met.C.KeepsRecord.stands g.met.C.InferCtxtLike.sound c.loop-rule.ctx c.loop-rule.rule-index (omega (arith, test)) c.loop-rule.search
           c.loop-rule.invariant.tells;
     }
 
@@ -74,14 +83,31 @@ follows-returns g t c =
     let all : length c.args.rules.now ≤ c.loop-rule.rule-index = omega (arith, test) in
     record {
       goes_on = settles_goes g.C.InferCtxtLike.state g.C.KeepsRecord.with_record s c.args.rules.now c.args.param_env c.args.goal.now
-          g.met.C.KeepsRecord.stands c.loop-rule.ctx c.loop-rule.rule-index all c.loop-rule.search
+          g.met.C.KeepsRecord.stands g.met.C.InferCtxtLike.sound c.loop-rule.ctx c.loop-rule.rule-index all c.loop-rule.search
           c.loop-rule.invariant c.settle.new.ctx c.settle.ensures.leaves;
       tells = settles_tells g.C.InferCtxtLike.state g.C.KeepsRecord.with_record s c.args.rules.now c.args.param_env c.args.goal.now
-          g.met.C.KeepsRecord.stands c.loop-rule.ctx c.loop-rule.rule-index all c.loop-rule.search
+          g.met.C.KeepsRecord.stands g.met.C.InferCtxtLike.sound c.loop-rule.ctx c.loop-rule.rule-index all c.loop-rule.search
           c.loop-rule.invariant c.settle.new.ctx c.settle.ensures.leaves c.settle.result c.settle.ensures.told;
     }
 
 -- A rule that is tried, and the record put back.
+pub try_and_put_back-gives_another_trait-requires : goal.try_and_put_back-gives_another_trait-requires
+try_and_put_back-gives_another_trait-requires g t c = record {
+  rule_known = subst (λ m. IsTrue (known (rule_tree m c.args.rule))) (sym c.cx.ensures) c.requires.rule.is_known;
+  goal_known = subst (λ m. IsTrue (known (m.clause c.args.goal.now))) (sym c.cx.ensures) c.requires.goal.is_known;
+}
+
+pub try_and_put_back-returns-then-gives_another_trait : goal.try_and_put_back-returns-then-gives_another_trait
+try_and_put_back-returns-then-gives_another_trait g t c =
+    let s = g.C.InferCtxtLike.state c.args.ctx.now in
+    let other = subst (λ m. GivesAnother m c.args.rule c.args.goal.now) c.cx.ensures
+    (c.gives_another_trait.ensures c.if-gives_another_trait.true) in
+    record {
+      goes_on = goes_itself s c.requires.may.lawful;
+      back = back_itself s c.requires.may.lawful;
+      tells = another_fails s s c.args.rules.now c.args.param_env c.args.rule c.args.goal.now c.requires.goal other;
+    }
+
 pub try_and_put_back-keep-requires : goal.try_and_put_back-keep-requires
 try_and_put_back-keep-requires g t c = record { lawful = c.requires.may.lawful }
 

@@ -1,0 +1,21 @@
+use Rattle.std.proofs.Common.{IsTrue, subst}
+use Rattle.relation_terms.specs.Trees.{known}
+use Rattle.relation_proving.proofs.OtherTraits.{another_given, first_known, given_known}
+use Rattle.relation_proving.proofs.reading.gives_another_trait.Goals as goal
+
+pub clauses-requires : goal.clauses-requires
+clauses-requires g c = given_known (g.I.Interner.meaning c.args.cx.now) c.args.rule.now c.requires.rule_known
+
+pub are_of_two-requires : goal.are_of_two-requires
+are_of_two-requires g c = record {
+  first_known = first_known (g.I.Interner.meaning c.args.cx.now) c.clauses.result.now _ c.in-Some.given.now
+      (subst (λ t. IsTrue (known t)) c.clauses.ensures
+      (given_known (g.I.Interner.meaning c.args.cx.now) c.args.rule.now c.requires.rule_known))
+      c.in-Some.ensures.cases.0;
+  second_known = c.requires.goal_known;
+}
+
+pub returns-in-Some : goal.returns-in-Some
+returns-in-Some g c = λ t.
+    another_given (g.I.Interner.meaning c.args.cx.now) c.args.rule.now c.args.goal.now c.in-Some.given.now
+    c.clauses.result.now _ c.clauses.ensures c.in-Some.ensures.cases.0 (c.are_of_two.ensures t)
