@@ -2,7 +2,7 @@
 ghost use Rattle.std.specs.Prelude.{IsTrue, IfOk, IfSome};
 ghost use Rattle.std.specs.List.{All};
 ghost use Rattle.relation_terms.specs.Trees.{known};
-ghost use Rattle.relation_terms.specs.Meaning.{Meaning, Extends};
+ghost use Rattle.relation_terms.specs.Meaning.{Extends};
 ghost use Rattle.relation_terms.specs.Owned.{bound_tree};
 ghost use Rattle.text_clauses.specs.Made.{MakesEach};
 ghost use Rattle.text_elaboration.specs.Pulls.{KnowsPulled};
@@ -119,7 +119,8 @@ pub(super) fn ask_supertraits<I: Interner>(
 
 // The same of a trait of a program.
 pub(super) fn ask_supertrait_ids<I: Interner>(cx: &I, terms: &Ready<I>, item: usize) -> Outcome<I>
-    ensures { (m : Meaning I.Key I.Id I.Name) → IfOk result (KnowsAnswer m (KnowsRelated m)) }
+    ensures { let m = I.meaning cx.now in
+        IfOk result (KnowsAnswer m (KnowsRelated m)) }
 {
     let Some(id) = terms.ids.get(item) else {
         return Err(Unasked::Memory);

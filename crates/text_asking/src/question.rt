@@ -311,8 +311,9 @@ fn ask_rigid<I: Interner>(cx: &I, terms: &Ready<I>, number: usize) -> Result<boo
 }
 
 // Whether something holds, as an answer.
-fn whether<I: Interner>(asked: Result<bool, Unasked>) -> Outcome<I>
-    ensures { (m : Meaning I.Key I.Id I.Name) → IfOk result (KnowsAnswer m (KnowsRelated m)) }
+fn whether<I: Interner>(cx: &I, asked: Result<bool, Unasked>) -> Outcome<I>
+    ensures { let m = I.meaning cx.now in
+        IfOk result (KnowsAnswer m (KnowsRelated m)) }
 {
     match asked {
         Ok(holds) => Ok(Answer::Is(holds)),
@@ -344,9 +345,18 @@ fn ask<I: SizedKeys>(ctx: &mut RefCtxt<I>, terms: &Ready<I>, question: &Question
             regions,
         } => ask_assumptions(ctx, terms, list, regions),
         QuestionKind::Fold { term, puts } => ask_folded(ctx, terms, term, puts),
-        QuestionKind::Escapes(number) => whether::<I>(ask_escapes(&ctx.interner, terms, number)),
-        QuestionKind::Infers(number) => whether::<I>(ask_infers(&ctx.interner, terms, number)),
-        QuestionKind::Rigid(number) => whether::<I>(ask_rigid(&ctx.interner, terms, number)),
+        QuestionKind::Escapes(number) => {
+            let cx = &ctx.interner;
+            whether(cx, ask_escapes(cx, terms, number))
+        }
+        QuestionKind::Infers(number) => {
+            let cx = &ctx.interner;
+            whether(cx, ask_infers(cx, terms, number))
+        }
+        QuestionKind::Rigid(number) => {
+            let cx = &ctx.interner;
+            whether(cx, ask_rigid(cx, terms, number))
+        }
         QuestionKind::MayUnify {
             params,
             lhs,
@@ -354,10 +364,11 @@ fn ask<I: SizedKeys>(ctx: &mut RefCtxt<I>, terms: &Ready<I>, question: &Question
             depth,
         } => {
             let cx = &ctx.interner;
-            whether::<I>(ask_may_unify(cx, terms, params, lhs, rhs, depth))
+            whether(cx, ask_may_unify(cx, terms, params, lhs, rhs, depth))
         }
         QuestionKind::ArgsMayUnify { params, lhs, rhs } => {
-            whether::<I>(ask_args_may_unify(ctx, terms, params, lhs, rhs))
+            let may = ask_args_may_unify(ctx, terms, params, lhs, rhs);
+            whether(&ctx.interner, may)
         }
         QuestionKind::RelateArgs { lhs, rhs } => {
             ask_args_related(ctx, terms, question.assumed, lhs, rhs)
@@ -388,7 +399,10 @@ fn ask<I: SizedKeys>(ctx: &mut RefCtxt<I>, terms: &Ready<I>, question: &Question
             ask_proved(ctx, terms, question.assumed, goal, impls, depth)
         }
         QuestionKind::Solve { longer, shorter } => ask_regions(ctx, terms, longer, shorter),
-        QuestionKind::One(first, second) => whether::<I>(ask_one(ctx, first, second)),
+        QuestionKind::One(first, second) => {
+            let one = ask_one(ctx, first, second);
+            whether(&ctx.interner, one)
+        }
         QuestionKind::Binding(variable) => {
             let bound = ask_binding(ctx, variable)?;
             Ok(Answer::Binding(bound))
