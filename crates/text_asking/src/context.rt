@@ -255,10 +255,7 @@ fn largest(named: Named, kind: VariableKind) -> Option<usize> {
 }
 
 // Makes variables until the context has those that are named.
-pub(super) fn have_named<I: Interner>(
-    ctx: &mut RefCtxt<I>,
-    named: Named,
-) -> Result<(), OutOfMemory>
+pub(super) fn have_named<I: Interner>(ctx: &mut RefCtxt<I>, named: Named) -> Result<(), OutOfMemory>
     requires { IsLawful (I.meaning ctx.old.interner) ctx.old.inner }
     ensures lawful { IsLawful (I.meaning ctx.new.interner) ctx.new.inner }
     ensures grown { Extends (I.meaning ctx.old.interner) (I.meaning ctx.new.interner) }

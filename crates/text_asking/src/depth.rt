@@ -409,9 +409,12 @@ impl Depths {
         } else {
             self.chained
         };
-        let chained = before
-            .saturating_add(found.open)
-            .saturating_add(opened_levels(self.alloc, program, &question.kind, self.budget)?);
+        let chained = before.saturating_add(found.open).saturating_add(opened_levels(
+            self.alloc,
+            program,
+            &question.kind,
+            self.budget,
+        )?);
         if chained > MOST {
             return Ok(false);
         }

@@ -43,14 +43,7 @@ fn goal_of<I: Interner>(cx: &mut I, terms: &Ready<I>, number: usize) -> Option<C
     ensures sure { IfSome result (KnowsClause (I.meaning cx.new)) }
 {
     let clause = terms.clauses.get(number)?;
-    build_clause(
-        cx,
-        terms.ids,
-        terms.names,
-        terms.parts,
-        terms.built,
-        clause,
-    )
+    build_clause(cx, terms.ids, terms.names, terms.parts, terms.built, clause)
 }
 
 // The rule of an impl of a program.
@@ -190,11 +183,7 @@ fn levels_of(alloc: Global, program: &Program) -> Result<Vec<usize>, AllocError>
 fn levels_said(program: &Program, levels: &[usize], says: &Says) -> usize {
     let mut most = 0usize;
     if let Says::Claims(_, _, args) = says {
-        for number in program
-            .parts
-            .get(args.first..args.behind)
-            .unwrap_or(&[])
-        {
+        for number in program.parts.get(args.first..args.behind).unwrap_or(&[]) {
             most = levels.get(*number).copied().unwrap_or(0).max(most);
         }
     }

@@ -36,9 +36,7 @@ use text_coherence::overlapping::WhyNot;
 use text_elaboration::pulls::{Manner, Pulled};
 use text_needs::needs::{Needs, both, need_at};
 use text_proving::proving::WhyNot as WhyUnproved;
-use text_reading::naming::{
-    Clause, Impl, Method, Parts, Put, Question, QuestionKind, Variables,
-};
+use text_reading::naming::{Clause, Impl, Method, Parts, Put, Question, QuestionKind, Variables};
 use text_reading::reading::Relation;
 use text_terms::building::{key_at, keys_at, ty_at};
 use type_relations::relate::solver_relating::RelateGoals;

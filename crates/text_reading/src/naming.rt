@@ -20,7 +20,7 @@ mod walks;
 
 pub use error::{Missing, NameError, Wrong, write_name_error};
 pub use program::{
-    Clause, Declared, Impl, Item, Method, Mode, ParamSort, Parts, Program, Put, Question, QuestionKind,
-    Says, Setup, Sort, Stated, Term, VariableId, VariableKind, Variables,
+    Clause, Declared, Impl, Item, Method, Mode, ParamSort, Parts, Program, Put, Question,
+    QuestionKind, Says, Setup, Sort, Stated, Term, VariableId, VariableKind, Variables,
 };
 pub use statements::{LAST_UNIVERSE, MOST_VARIABLES, look_up};

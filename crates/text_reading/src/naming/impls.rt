@@ -81,12 +81,7 @@ impl<'a> Namer<'a> {
     }
 
     // Whether a predicate follows from the impls so far and from what is assumed.
-    pub fn note_prove(
-        &mut self,
-        node: &Node,
-        goal: usize,
-        depth: usize,
-    ) -> Result<(), NameError> {
+    pub fn note_prove(&mut self, node: &Node, goal: usize, depth: usize) -> Result<(), NameError> {
         let clauses = self.clauses(node, &[goal])?;
         self.each_implements(node, clauses)?;
         let impls = self.program.impls.len();
