@@ -50,7 +50,7 @@ fn is_list(form: Form) -> bool {
     matches!(form, Form::Tuple | Form::Branch | Form::Or)
 }
 
-// The term of a form over terms that are listed among a program's parts.
+// The term of a form over the terms of a list, which is a range of a program's parts.
 fn term_over(form: Form, parts: &[usize], list: Parts) -> Option<Term> {
     let numbers = parts.get(list.first..list.behind)?;
     match (form, numbers) {
