@@ -50,8 +50,9 @@ fn is_list(form: Form) -> bool {
     matches!(form, Form::Tuple | Form::Branch | Form::Or)
 }
 
-// The term of a form over terms that are listed.
-fn term_over(form: Form, numbers: &[usize], list: Parts) -> Option<Term> {
+// The term of a form over the terms of a list, which is a range of a program's parts.
+fn term_over(form: Form, parts: &[usize], list: Parts) -> Option<Term> {
+    let numbers = parts.get(list.first..list.behind)?;
     match (form, numbers) {
         (Form::Tuple, _) => Some(Term::Tuple(list)),
         (Form::Branch, _) => Some(Term::Branch(USIZE, list)),
@@ -376,11 +377,9 @@ impl<'a> Namer<'a> {
         parts: &[usize],
     ) -> Result<Made, NameError> {
         let list = self.list(node, parts, wanted)?;
-        let Parts { first, behind } = list.parts;
-        let numbers = self.program.parts.get(first..behind).unwrap_or(&[]);
-        let term = term_over(form, numbers, list.parts);
+        let term = term_over(form, &self.program.parts, list.parts);
         if !is_list(form) {
-            self.program.parts.truncate(first);
+            self.program.parts.truncate(list.parts.first);
         }
         match term {
             Some(term) => self.add(node, term, sort, list.levels),

@@ -5,12 +5,12 @@ use Rattle.text_asking.proofs.proving.proof_of.Goals as goal
 
 pub rules_of-requires : goal.rules_of-requires
 rules_of-requires g c =
-    ready_stays c.goal_of.ensures.grown c.args.terms.now.built.now c.args.terms.now.needs.now c.requires
+    ready_stays c.goal_of.ensures.grown c.args.terms.now.built.now c.requires
 
 pub environment_of-requires : goal.environment_of-requires
 environment_of-requires g c =
     ready_stays (extends_on c.goal_of.ensures.grown c.rules_of.ensures.grown) c.args.terms.now.built.now
-    c.args.terms.now.needs.now c.requires
+    c.requires
 
 pub returns-in_err-rules-clause-grown : goal.returns-in_err-rules-clause-grown
 returns-in_err-rules-clause-grown g c = extends_on c.goal_of.ensures.grown c.rules_of.ensures.grown

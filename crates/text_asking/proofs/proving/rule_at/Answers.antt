@@ -7,7 +7,7 @@ use Rattle.text_asking.proofs.proving.rule_at.Goals as goal
 
 pub variables_at-requires : goal.variables_at-requires
 variables_at-requires g c =
-    ready_keys (g.I.Interner.meaning c.args.cx.now) c.args.terms.now.built.now c.args.terms.now.needs.now c.requires
+    ready_keys (g.I.Interner.meaning c.args.cx.now) c.args.terms.now.built.now c.requires
 
 pub rule_of-requires : goal.rule_of-requires
 rule_of-requires g c =

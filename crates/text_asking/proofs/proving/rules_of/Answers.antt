@@ -6,7 +6,7 @@ use Rattle.text_asking.proofs.proving.rules_of.Goals as goal
 
 pub rule_at-requires : goal.rule_at-requires
 rule_at-requires g c =
-    ready_stays c.loop-said.invariant.grown c.args.terms.now.built.now c.args.terms.now.needs.now c.requires
+    ready_stays c.loop-said.invariant.grown c.args.terms.now.built.now c.requires
 
 pub loop-said-preserved : goal.loop-said-preserved
 loop-said-preserved g c =
