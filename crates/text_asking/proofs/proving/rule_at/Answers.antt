@@ -2,12 +2,10 @@ use Rattle.std.proofs.Common.{sym, subst}
 use Rattle.std.specs.List.{All}
 use Rattle.relation_terms.proofs.Stays.{extends_on}
 use Rattle.text_proving.specs.Made.{KnowsClause}
-use Rattle.text_asking.proofs.AskingLemmas.{ready_keys}
 use Rattle.text_asking.proofs.proving.rule_at.Goals as goal
 
 pub variables_at-requires : goal.variables_at-requires
-variables_at-requires g c =
-    ready_keys (g.I.Interner.meaning c.args.cx.now) c.args.terms.now.built.now c.requires
+variables_at-requires g c = c.requires
 
 pub rule_of-requires : goal.rule_of-requires
 rule_of-requires g c =
