@@ -15,8 +15,8 @@ rule_of-requires g c =
 pub returns-in-Ok-clause-grown : goal.returns-in-Ok-clause-grown
 returns-in-Ok-clause-grown g c = extends_on c.clauses_of.ensures.grown c.rule_of.ensures.grown
 
-pub returns-in-Err-clause-grown : goal.returns-in-Err-clause-grown
-returns-in-Err-clause-grown g c = extends_on c.clauses_of.ensures.grown c.rule_of.ensures.grown
+pub returns-clause-grown : goal.returns-clause-grown
+returns-clause-grown g c = extends_on c.clauses_of.ensures.grown c.rule_of.ensures.grown
 
 pub returns-in-Ok-clause-sure : goal.returns-in-Ok-clause-sure
 returns-in-Ok-clause-sure g c = c.in-Ok.ensures.made.0
