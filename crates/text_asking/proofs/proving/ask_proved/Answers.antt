@@ -7,8 +7,8 @@ use Rattle.text_proving.specs.Made.{KnowsMade}
 use Rattle.text_asking.proofs.ProofLemmas.{proof_later}
 use Rattle.text_asking.proofs.proving.ask_proved.Goals as goal
 
-pub named_in-requires : goal.named_in-requires
-named_in-requires g c = c.in-Some.ensures.sure.goal
+pub named_in-named-requires : goal.named_in-named-requires
+named_in-named-requires g c = c.in-Some.ensures.sure.goal
 
 pub have_named-requires : goal.have_named-requires
 have_named-requires g c = lawful_grows c.proof_of.ensures.grown c.args.ctx.now.inner c.requires.lawful
@@ -33,10 +33,10 @@ returns-in_default-clause-lawful g c =
 pub returns-in_default-have_named-clause-grown : goal.returns-in_default-have_named-clause-grown
 returns-in_default-have_named-clause-grown g c = extends_on c.proof_of.ensures.grown c.have_named.ensures.grown
 
-pub returns-in-Ok-clause-grown : goal.returns-in-Ok-clause-grown
-returns-in-Ok-clause-grown g c =
+pub returns-in-Ok-ask_proof-clause-grown : goal.returns-in-Ok-ask_proof-clause-grown
+returns-in-Ok-ask_proof-clause-grown g c =
     extends_on (extends_on c.proof_of.ensures.grown c.have_named.ensures.grown) c.ask_proof.ensures.grown
 
-pub returns-in-Err-clause-grown : goal.returns-in-Err-clause-grown
-returns-in-Err-clause-grown g c =
+pub returns-clause-grown : goal.returns-clause-grown
+returns-clause-grown g c =
     extends_on (extends_on c.proof_of.ensures.grown c.have_named.ensures.grown) c.ask_proof.ensures.grown

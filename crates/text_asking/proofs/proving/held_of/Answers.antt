@@ -12,5 +12,5 @@ rules_held-requires g c =
 pub returns-in-Ok-clause-grown : goal.returns-in-Ok-clause-grown
 returns-in-Ok-clause-grown g c = extends_on c.clauses_of.ensures.grown c.rules_held.ensures.grown
 
-pub returns-in-Err-clause-grown : goal.returns-in-Err-clause-grown
-returns-in-Err-clause-grown g c = extends_on c.clauses_of.ensures.grown c.rules_held.ensures.grown
+pub returns-clause-grown : goal.returns-clause-grown
+returns-clause-grown g c = extends_on c.clauses_of.ensures.grown c.rules_held.ensures.grown
