@@ -45,8 +45,7 @@ pub fn ask_solver<C: KeepsRecord + HasVariables>(
     requires env_known { KnowsEnv (C.state ctx.old) param_env }
     requires rules_known { All (KnowsRule (C.state ctx.old)) rules.now }
     requires goal_known { IsTrue (known (((C.state ctx.old).meaning).clause goal.now)) }
-    ensures derives { let c = C.state ctx.old in
-        IfSome result (YesDerives c (C.state ctx.new) rules.now goal.now param_env) }
+    ensures derives { IfSome result (YesDerives (C.state ctx.old) (C.state ctx.new) rules.now goal.now param_env) }
     ensures sound { IfSome result (YesMakesFollow (C.state ctx.old) (C.state ctx.new) rules.now goal.now) }
     ensures principal { IfSome result (YesLosesNone (C.state ctx.old) (C.state ctx.new) rules.now goal.now) }
     ensures none { IfSome result (NoFollowsNever (C.state ctx.old) (C.state ctx.new) rules.now goal.now) }
