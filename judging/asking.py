@@ -24,11 +24,11 @@ def run(program, text):
     return ran.stdout.splitlines()
 
 
-def batches(questions):
-    """Cuts a row of questions into files."""
+def batches(questions, most):
+    """Cuts a row of questions into files, of so many questions at most if that is said."""
     batch, length = [], 0
     for it in questions:
-        if length + len(it) > MOST_BYTES:
+        if length + len(it) > MOST_BYTES or len(batch) == most:
             yield batch
             batch, length = [], 0
         batch.append(it)
@@ -36,10 +36,10 @@ def batches(questions):
     yield batch
 
 
-def ask_all(program, questions):
+def ask_all(program, questions, most=None):
     """Gives the answer of each question."""
     answers = []
-    for batch in batches(questions):
+    for batch in batches(questions, most):
         printed = run(program, ask_prelude() + "".join(f"{it};\n" for it in batch))
         if len(printed) != len(batch):
             raise Wrong(f"{program} answers {len(printed)} of {len(batch)} questions")

@@ -1,72 +1,53 @@
 //! Answers to the questions of a text, or what is wrong with it.
-ghost use Rattle.std.specs.Prelude.{◌≡◌, ◌≢◌, ◌≤◌};
-ghost use Rattle.std.specs.IoError.{error_kind};
+ghost use Rattle.std.specs.Prelude.{◌≡◌, ◌≤◌, ◌↔◌, IsTrue, codes};
 
 use std::alloc::Global;
 use std::fmt::{self, Write};
 use std::io::{self, ErrorKind, Read};
 use text_asking::ask_all;
+use text_asking::programs::{WRONG, status_of};
 use text_reading::naming::{Program, look_up};
 use text_reading::reading::{ReadError, Tree, place_of, read};
 use text_reading::telling::{Lines, tell_unnamed, tell_unread};
 
-/// The status where all was read and asked.
-pub const ANSWERED: u8 = 0;
-
-/// The status where an answer can't be written, or a growth was refused before the text was read.
-pub const UNWRITTEN: u8 = 1;
-
-/// The status where the text is wrong, can't be read, or the words are wrong.
-pub const WRONG: u8 = 2;
-
 /// What standard input is called where a file's name stands.
 pub const STDIN: &str = "stdin";
+
+// How the program is used.
+const USAGE: &str = "usage: ask [FILE]\n";
+
+// What its status says, and where the language is told.
+const HELP: &str = "\
+Answers the questions of a file, or of standard input for `-` or no word, each on a line of its own.
+The status is 0 where all was asked, 2 where the text is wrong or can't be read, 1 where an answer can't be written.
+pages:
+  docs/QUESTIONS.md    how questions are written, and how answers are read
+  docs/DEFINITIONS.md  what it means that two terms are related
+  docs/PROVED.md       what is proved of answers, and what is not
+";
 
 // One byte more than a text may have: then it is seen that a text has too many.
 const ENOUGH: u64 = 1_048_577;
 
 /// Whether that word stands for standard input.
-pub fn is_stdin(word: &str) -> bool {
+pub fn is_stdin(word: &str) -> bool
+    ensures { IsTrue result ↔ (word.now ≡ codes "-") }
+{
     word == "-"
 }
 
-/// Whether that word asks how the program is used.
-pub fn is_help(word: &str) -> bool {
-    word == "--help"
-}
-
-/// Writes how the program is used, on a line.
+/// Writes how the program is used, on a line. Nothing is promised of that: a clause would be the text again.
 ///
 /// # Errors
 /// What the writer answers where it takes no more.
 pub fn write_usage<W: io::Write>(out: &mut W) -> io::Result<()> {
-    writeln!(out, "usage: ask [FILE]")
+    out.write_all(USAGE.as_bytes())
 }
 
 // Writes how the program is used, what its status says, and where the language is told.
 fn write_help<O: io::Write>(out: &mut O) -> io::Result<()> {
     write_usage(out)?;
-    writeln!(
-        out,
-        "Answers the questions of a file, or of standard input for `-` or no word, each on a line of its own."
-    )?;
-    writeln!(
-        out,
-        "The status is 0 where all was asked, 2 where the text is wrong or can't be read, 1 where an answer can't be written."
-    )?;
-    writeln!(out, "pages:")?;
-    writeln!(
-        out,
-        "  docs/QUESTIONS.md    how questions are written, and how answers are read"
-    )?;
-    writeln!(
-        out,
-        "  docs/DEFINITIONS.md  what it means that two terms are related"
-    )?;
-    writeln!(
-        out,
-        "  docs/PROVED.md       what is proved of answers, and what is not"
-    )?;
+    out.write_all(HELP.as_bytes())?;
     out.flush()
 }
 
@@ -74,13 +55,7 @@ fn write_help<O: io::Write>(out: &mut O) -> io::Result<()> {
 pub fn print_help<O: io::Write, E: io::Write>(out: &mut O, err: &mut E) -> u8
     ensures status { result ≤ 1 }
 {
-    match write_help(out) {
-        Ok(()) => ANSWERED,
-        Err(error) => {
-            let _ = writeln!(err, "standard output: {error}");
-            UNWRITTEN
-        }
-    }
+    status_of(write_help(out), err)
 }
 
 /// The bytes of a reader, as many as are needed to see that they are too many.
@@ -91,19 +66,6 @@ pub fn bytes_of<R: Read + Drop>(alloc: Global, reader: R) -> io::Result<Vec<u8>>
     let mut bytes = Vec::new(alloc);
     let _ = reader.take(ENOUGH).read_to_end(&mut bytes)?;
     Ok(bytes)
-}
-
-/// Tells why the program can't begin, and gives the status: the file's name is not UTF-8, or a growth was refused.
-pub fn tell_unbegun<E: io::Write>(error: &io::Error, err: &mut E) -> u8
-    ensures wrong { error_kind error.now ≡ ErrorKind.InvalidData → result ≡ 2 }
-    ensures refused { error_kind error.now ≢ ErrorKind.InvalidData → result ≡ 1 }
-{
-    if error.kind() == ErrorKind::InvalidData {
-        let _ = writeln!(err, "ask: the file's name is not UTF-8");
-        return WRONG;
-    }
-    let _ = writeln!(err, "ask: {error}");
-    UNWRITTEN
 }
 
 // Writes a text, and where it ends a line all that waits in a buffer.
@@ -172,13 +134,7 @@ fn answer_tree<O: io::Write, E: io::Write>(
             return WRONG;
         }
     };
-    match write_all(alloc, &program, out) {
-        Ok(()) => ANSWERED,
-        Err(error) => {
-            let _ = writeln!(err, "standard output: {error}");
-            UNWRITTEN
-        }
-    }
+    status_of(write_all(alloc, &program, out), err.out)
 }
 
 // Tells that the byte at a place of a text is not UTF-8.

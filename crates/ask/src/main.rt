@@ -3,12 +3,14 @@
 
 mod answering;
 
-use answering::{
-    STDIN, WRONG, answer, bytes_of, is_help, is_stdin, print_help, tell_unbegun, write_usage,
-};
+use answering::{STDIN, answer, bytes_of, is_stdin, print_help, write_usage};
 use std::io::{BufWriter, Write};
 use std::process::ExitCode;
 use std::{env, fs, io};
+use text_asking::programs::{WRONG, is_help, tell_unbegun};
+
+// What a word of the program's names, where it can't be read.
+const NAMED: &str = "the file's name";
 
 // The words behind the program's name.
 fn words_of(rt: &HostRuntime) -> io::Result<Vec<String>> {
@@ -20,11 +22,11 @@ fn main(rt: HostRuntime) -> io::Result<ExitCode> {
     let mut err = rt.stderr();
     let words = match words_of(&rt) {
         Ok(words) => words,
-        Err(error) => return Ok(ExitCode::from(tell_unbegun(&error, &mut err))),
+        Err(error) => return Ok(ExitCode::from(tell_unbegun("ask", NAMED, &error, &mut err))),
     };
     let mut out = match BufWriter::new(rt.alloc(), rt.stdout()) {
         Ok(out) => out,
-        Err(error) => return Ok(ExitCode::from(tell_unbegun(&error, &mut err))),
+        Err(error) => return Ok(ExitCode::from(tell_unbegun("ask", NAMED, &error, &mut err))),
     };
     if words.len() > 1 {
         let _ = write_usage(&mut err);

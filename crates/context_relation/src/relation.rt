@@ -220,6 +220,7 @@ impl<'a, Infcx: InferCtxtLike> TypeRelation<Infcx::Interner> for SolverRelating<
         self.step_consts(a, b)
     }
 
+    #[inline(always)]
     fn regions(
         &mut self,
         a: &Region<Infcx::Interner>,

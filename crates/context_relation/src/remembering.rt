@@ -10,6 +10,7 @@ use relation_terms::terms::{OutOfMemory, Ty};
 
 impl<'a, Infcx: InferCtxtLike> SolverRelating<'a, Infcx> {
     // Whether two types are remembered at the ambient variance.
+    #[inline(always)]
     pub(super) fn was_related(&self, a: &Ty<Infcx::Interner>, b: &Ty<Infcx::Interner>) -> bool
         requires lawful { (solver_through Infcx.state self.now).lawful }
         requires a_known { KnowsTy (Infcx.state self.now.infcx.now) a.now }

@@ -55,6 +55,7 @@ impl<'a, Infcx: InferCtxtLike> SolverRelating<'a, Infcx> {
     /// the variable can't name, `Budget` where no instantiation is left, `Sorts` of a number variable and a type that
     /// it can't be. Nothing was bound or registered then. `Memory` where a growth was refused; a variable may be bound
     /// then to one in the place of an alias, and nothing registered; or all was done, but the pair is not remembered.
+    #[inline(always)]
     pub fn step_tys(
         &mut self,
         a: &Ty<Infcx::Interner>,
@@ -82,6 +83,7 @@ impl<'a, Infcx: InferCtxtLike> SolverRelating<'a, Infcx> {
     // What comes of two types as they are read: of a pair that is remembered the left one, and nothing is done; of
     // another what combining says, which leaves ordinary types to their parts. Where that is an answer the pair is
     // remembered.
+    #[inline(always)]
     fn step_read(
         &mut self,
         a: &Ty<Infcx::Interner>,
@@ -102,6 +104,26 @@ impl<'a, Infcx: InferCtxtLike> SolverRelating<'a, Infcx> {
         if are_ordinary(&*self.infcx, a, b) {
             return Ok(Step::Parts { a: *a, b: *b });
         }
+        self.step_anew(a, b)
+    }
+
+    // The same, whether or not the pair is remembered. It stands apart from the recursion, which takes less of the stack
+    // so.
+    #[inline(never)]
+    fn step_anew(
+        &mut self,
+        a: &Ty<Infcx::Interner>,
+        b: &Ty<Infcx::Interner>,
+    ) -> RelateResult<Infcx::Interner, Step<Ty<Infcx::Interner>>>
+        requires lawful { (solver_through Infcx.state self.old).lawful }
+        requires decides { self.old.ambient_variance ≢ Bivariant }
+        requires asked { SolverTakes Infcx.state (λ m. m.ty) self.old a.now b.now }
+        requires a_shallow { let r = Infcx.state self.old.infcx.now in IsShallow r.store ((r.meaning).ty a.now) }
+        requires b_shallow { let r = Infcx.state self.old.infcx.now in IsShallow r.store ((r.meaning).ty b.now) }
+        ensures stepped { SolverSteps Infcx.state self.old self.new a.now b.now result }
+        ensures steps { SolverStepsRead Infcx.state self.old self.new a.now b.now result }
+        ensures remembers { SolverRemembersRead Infcx.state self.old self.new a.now b.now result }
+    {
         match self.combine_tys(a, b)? {
             Step::Done(answer) => {
                 self.remember(a, b)?;

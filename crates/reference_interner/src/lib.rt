@@ -96,6 +96,7 @@ impl Interner for RefInterner {
         }
     }
 
+    #[inline(always)]
     fn tys(&self, tys: &Tys<Self>) -> &[Ty<Self>] {
         match self.nodes.node(tys.0.0) {
             Node::Tys(list) => list.as_slice(),
@@ -136,6 +137,7 @@ impl Interner for RefInterner {
         }
     }
 
+    #[inline(always)]
     fn args(&self, args: &GenericArgs<Self>) -> &[GenericArg<Self>] {
         match self.nodes.node(args.0.0) {
             Node::Args(list) => list.as_slice(),

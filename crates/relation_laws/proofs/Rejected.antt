@@ -18,7 +18,7 @@ use Rattle.relation_semantics.specs.FirstOrder.{IsFirstOrder, IsFirstOrderHead, 
 use Rattle.relation_laws.specs.RejectionLaws.{ClashesDoNotUnify, ClashesAreNotRelated}
 use Rattle.relation_semantics.proofs.StoreCalls.{bindings_are_met}
 
-values_no_variables : (t : Tree) → Leaves IsValueLeaf t → Leaves IsNoVariable t
+pub values_no_variables : (t : Tree) → Leaves IsValueLeaf t → Leaves IsNoVariable t
 values_no_variables (leaf l) h = no_variable l h
 values_no_variables (node g ts) h = values_no_variables ts h
 values_no_variables (bind ks t) h = values_no_variables t h
@@ -80,7 +80,7 @@ first_order_head (expression k) ts f = absurd f
 first_order_head h ts f = refl
 
 -- What an assignment makes of a first-order term is an instance of it.
-applied : (st : Store) (s : Assign) → IsAssignment st s → (t : Tree) → IsFirstOrder t → Leaves (IsMadeLeaf st) t →
+pub applied : (st : Store) (s : Assign) → IsAssignment st s → (t : Tree) → IsFirstOrder t → Leaves (IsMadeLeaf st) t →
     Instance (flexible false) t (apply s t)
 applied st s g (leaf (variable k n)) f m = let h = g k n m in put_value k n (s k n) h.0 h.1
 applied st s g (leaf (bound k d i)) f m = absurd f
@@ -92,7 +92,7 @@ applied st s g (bind ks t) f m = absurd f
 applied st s g nil f m = kept_nil
 applied st s g (cons t ts) f m = kept_cons (applied st s g t f.0 m.0) (applied st s g ts f.1 m.1)
 
-made : (st : Store) (t : Tree) → IsTermIn st t → Leaves (IsMadeLeaf st) t
+pub made : (st : Store) (t : Tree) → IsTermIn st t → Leaves (IsMadeLeaf st) t
 unfolding IsTermIn InContext
 made st t h = h.0
 

@@ -5,6 +5,7 @@ pub mod Candidates
 pub mod GoingOn
 pub mod Answering
 pub mod OneValue
+pub mod Barred
 pub mod OtherTraits
 pub mod Searches
 pub mod Meaning

@@ -74,7 +74,7 @@ others_in : (st : Store) (t ts : Tree) → IsTermIn st (cons t ts) → IsTermIn 
 unfolding IsTermIn InContext
 others_in st t ts h = (h.0.1, h.1.1, h.2.1)
 
-each_in : {K : Type 0} (f : K → Tree) (st : Store) (ks : List K) → IsTermIn st (list_tree f ks) →
+pub each_in : {K : Type 0} (f : K → Tree) (st : Store) (ks : List K) → IsTermIn st (list_tree f ks) →
     All (λ k. IsTermIn st (f k)) ks
 each_in f st [] h = All-nil (λ k. IsTermIn st (f k))
 each_in f st (k ∷ ks) h = All-cons (λ k. IsTermIn st (f k)) k ks (first_in st (f k) (list_tree f ks) h)

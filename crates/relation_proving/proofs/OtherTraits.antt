@@ -1,26 +1,18 @@
--- A rule that gives another trait than a goal asks for fails.
-use Rattle.std.proofs.Common.{◌≡◌, ◌≢◌, ◌∙◌, ℕ, List, [], ◌∷◌, refl, sym, ap, subst, Option, Some, None, IsSome, IsTrue}
+-- A rule that gives another trait than a goal asks for.
+use Rattle.std.proofs.Common.{◌≡◌, ◌∙◌, ℕ, List, ◌∷◌, sym, ap, subst, Option, Some, None, IsSome, IsTrue}
 use Rattle.std.proofs.lemmas.Bool.{false≢true, and_parts}
 use Rattle.term_enums.specs.declared.PredicatePolarity.{PredicatePolarity}
-use Rattle.relation_terms.specs.declared.predicate.trait_ref.TraitPredicate.{TraitPredicate}
 use Rattle.relation_terms.specs.declared.terms.binder.Binder.{Binder}
 use Rattle.relation_terms.specs.declared.terms.keys.ClauseKey.{ClauseKey}
 use Rattle.relation_terms.specs.declared.terms.keys.ClausesKey.{ClausesKey}
-use Rattle.relation_terms.specs.declared.terms.keys.ParamEnvKey.{ParamEnvKey}
-use Rattle.relation_terms.specs.Clauses.{trait_clause_tree}
 use Rattle.relation_terms.specs.Erasure.{erase}
 use Rattle.relation_terms.specs.Heads.{BoundKind, trait_ref, trait_clause}
 use Rattle.relation_terms.specs.Trees.{Tree, node, bind, nil, cons, list_tree, known, inst, Assign, apply}
 use Rattle.relation_terms.specs.Meaning.{Meaning, under}
 use Rattle.relation_terms.proofs.Binders.{under_known}
-use Rattle.relation_semantics.specs.Contexts.{Context}
 use Rattle.relation_solver.specs.Rules.{Rule}
-use Rattle.relation_solver.specs.Traces.{no_form}
-use Rattle.relation_proving.specs.Candidates.{MayAsk}
 use Rattle.relation_proving.specs.RuleTerms.{IsRule, rule_tree}
-use Rattle.relation_proving.specs.Telling.{goal_tree, TellsRule}
 use Rattle.relation_proving.specs.Traits.{IsOfTraitOf, IsOfAnother, AreOfTwo, GivesAnother}
-use Rattle.relation_proving.specs.declared.told.Told.TheVariants.{No}
 
 -- A clause of a trait, under a binder.
 abbrev of_trait : Option (List BoundKind) → PredicatePolarity → ℕ → Tree → Tree
@@ -34,14 +26,14 @@ one_trait (Some ks) None p p' d d' t t' s xs i e = absurd cc
 one_trait None q p p' d d' t t' s xs i e = absurd (false≢true i)
 
 -- What a rule gives is its first clause.
-first_given : (o : Option (List BoundKind)) (ks : List BoundKind) (t u us v vs : Tree) → under o t ≡ bind ks (cons u us) →
+pub first_given : (o : Option (List BoundKind)) (ks : List BoundKind) (t u us v vs : Tree) → under o t ≡ bind ks (cons u us) →
     t ≡ cons v vs → u ≡ v
 first_given (Some ls) ks t u us v vs e f = cc
 first_given None ks t u us v vs e f = absurd cc
 
 module _ {Key Id Name : Type 0} (m : Meaning Key Id Name) where
   -- A goal that is of another trait than a clause is no instance of it.
-  apart_by_trait : (g given : ClauseKey Key) (i : Id) → IsOfTraitOf m given i → IsOfAnother m g i →
+  pub apart_by_trait : (g given : ClauseKey Key) (i : Id) → IsOfTraitOf m given i → IsOfAnother m g i →
       IsTrue (known (m.clause g)) → (s : Assign) (xs : List Tree) →
       erase (apply s (m.clause g)) ≡ erase (inst xs 0 (m.clause given)) → ⊥
   apart_by_trait g given i a b h s xs e =
@@ -74,14 +66,7 @@ module _ {Key Id Name : Type 0} (m : Meaning Key Id Name) where
       IsTrue (known (m.clauses r.value))
   given_known r h = (under_known (m.bound_vars r.bound_vars) (m.clauses r.value) h).1
 
-module _ {Key Id Name : Type 0} (c d : Context Key Id Name) (ks : List (Binder Key (ClausesKey Key)))
-    (e : ParamEnvKey Key) (k : Binder Key (ClausesKey Key)) (g : ClauseKey Key) where
-  gives_is : (r : Rule) → IsRule (rule_tree c.meaning k) r → (a : GivesAnother c.meaning k g) →
-      r.gives ≡ (c.meaning).clause a.given
-  gives_is r is a = first_given ((c.meaning).bound_vars k.bound_vars) r.binds ((c.meaning).clauses k.value) r.gives
-      (list_tree (λ x. x) r.asks) ((c.meaning).clause a.given) a.others is.clauses a.clauses
-
-  pub another_fails : MayAsk c g → GivesAnother c.meaning k g → TellsRule c d ks e k g No
-  another_fails asked a = λ u rs r x f i h. no_form c.store r (goal_tree c g) (λ s xs sol fits named same.
-      apart_by_trait c.meaning g a.given (a.are_two).of (a.are_two).first (a.are_two).second asked.is_known s xs
-      (same ∙ ap (λ t. erase (inst xs 0 t)) (gives_is r (f.rule).is_rule a)))
+  pub gives_is : (k : Binder Key (ClausesKey Key)) (g : ClauseKey Key) (r : Rule) → IsRule (rule_tree m k) r →
+      (a : GivesAnother m k g) → r.gives ≡ m.clause a.given
+  gives_is k g r is a = first_given (m.bound_vars k.bound_vars) r.binds (m.clauses k.value) r.gives
+      (list_tree (λ x. x) r.asks) (m.clause a.given) a.others is.clauses a.clauses

@@ -15,7 +15,7 @@ use Rattle.relation_terms.proofs.Stays.{extends_on, stays_same}
 use Rattle.relation_semantics.specs.Contexts.{Context, KnowsEnv}
 use Rattle.relation_semantics.specs.Lawful.{items_of}
 use Rattle.relation_semantics.specs.Steps.{IsLater}
-use Rattle.relation_semantics.specs.Stores.{Store, IsSound}
+use Rattle.relation_semantics.specs.Stores.{IsSound}
 use Rattle.kept_records.specs.Records.{SameRecord, IsRecordOf, StandsOn}
 use Rattle.relation_solver.specs.Rules.{Rule, given, one}
 use Rattle.relation_solver.specs.Traces.{Did, goal, rule, yes, no, FollowsBy, Proves, took_first}

@@ -3,6 +3,7 @@ pub mod Fitting
 pub mod Bodies
 pub mod Traits
 pub mod Candidates
+pub mod Barring
 pub mod Telling
 pub mod Searching
 pub mod Answers

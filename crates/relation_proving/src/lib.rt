@@ -2,6 +2,7 @@
 //! and what it asks for is proved in turn.
 #![tactic(auto)]
 
+mod barring;
 pub mod candidate;
 pub mod checking;
 pub mod fitting;

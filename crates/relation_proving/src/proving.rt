@@ -9,9 +9,10 @@ ghost use Rattle.relation_proving.specs.Searching.{TellsRound, TellsTried};
 ghost use Rattle.relation_proving.specs.Answers.{YesDerives, YesMakesFollow, YesLosesNone};
 ghost use Rattle.relation_proving.specs.Answers.{NoFollowsNever, LeavesNothing};
 
+use crate::barring::is_passed_over;
 use crate::candidate::{Candidate, try_rule};
 use crate::opening::RuleOf;
-use crate::reading::{comes_to_one, gives_another_trait};
+use crate::reading::comes_to_one;
 use crate::searching::{Round, Search, Tried, keep_told, settle, with_tried, worse};
 pub use crate::told::{Told, Why};
 use kept_records::KeepsRecord;
@@ -91,7 +92,7 @@ fn follows<C: KeepsRecord>(
     Ok(settle(ctx, search))
 }
 
-// Tries a rule, and puts the record back. One that gives another trait is told apart before.
+// Tries a rule, and puts the record back. One that gives another trait or form is passed over.
 #[cycle(proving)]
 fn try_and_put_back<C: KeepsRecord>(
     ctx: &mut C,
@@ -110,7 +111,7 @@ fn try_and_put_back<C: KeepsRecord>(
     ensures tells { let c = C.state ctx.old in
         IfOk result (TellsTried C.state C.with_record c ctx.new rules.now param_env rule goal.now) }
 {
-    if gives_another_trait(ctx.cx(), &rule, goal) {
+    if is_passed_over(&*ctx, &rule, goal) {
         return Ok(Tried::Fails);
     }
     let before = ctx.keep()?;

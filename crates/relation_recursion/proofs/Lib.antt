@@ -1,6 +1,7 @@
 pub mod Alone
 pub mod Arguments
 pub mod AsParts
+pub mod Beginnings
 pub mod Bodies
 pub mod ByParts
 pub mod Compared

@@ -7,3 +7,4 @@ pub mod Forms
 pub mod Keeping
 pub mod Makers
 pub mod PredicateForms
+pub mod Starting

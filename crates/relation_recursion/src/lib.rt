@@ -11,4 +11,5 @@ mod opening;
 mod parts;
 mod reading;
 pub mod relatable;
+mod starting;
 pub mod structural;

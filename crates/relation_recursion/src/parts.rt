@@ -96,6 +96,7 @@ pub(crate) fn is_by_parts<I: Interner>(cx: &I, ty: &Ty<I>) -> bool
 }
 
 // The part of a type at a place. Places count from 0, in the order in which parts are related.
+#[inline(always)]
 pub(crate) fn part<I: Interner>(cx: &I, ty: &Ty<I>, i: usize) -> GenericArg<I>
     requires ty_known { IsTrue (known ((I.meaning cx.now).ty ty.now)) }
     requires over_args { IsByParts ((I.meaning cx.now).ty ty.now) → ⊥ }

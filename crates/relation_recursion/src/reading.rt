@@ -1,5 +1,5 @@
 //! Reading terms through a relation's interner.
-ghost use Rattle.std.specs.Prelude.{◌≡◌, ◌≢◌, ◌↔◌, ◌<◌, None, IsTrue, OnOk, IfErr};
+ghost use Rattle.std.specs.Prelude.{◌≡◌, ◌≢◌, ◌↔◌, ◌<◌, None, IsTrue, OnOk, IfOk, IfErr};
 ghost use Rattle.relation_terms.specs.Trees.{known, count, nth, IsList};
 ghost use Rattle.term_enums.specs.declared.Variance.TheVariants.{Bivariant};
 ghost use Rattle.relation_terms.specs.Meaning.{arg_tree};
@@ -11,13 +11,13 @@ ghost use Rattle.relation_semantics.specs.Parts.{IsFormedConst, IsByParts, IsCom
 ghost use Rattle.relation_steps.specs.Keyed.{ShownTys, NotedTys, TysAskOpen, AreOver};
 ghost use Rattle.relation_steps.specs.Terms.{AskedTerms};
 ghost use Rattle.relation_recursion.specs.Comparing.{AreOfOneFormBy, PartsDiffer, nth_part, nth_const_part};
+ghost use Rattle.relation_recursion.specs.Starting.{Starts};
 ghost use Rattle.part_variances.specs.Handing.{named_place};
 
-use crate::comparing::{compare_consts, compare_members, compare_parts, compare_tys};
-use crate::forms::{is_error, is_error_const};
-use crate::parts::{
-    const_part, const_parts_count, is_by_parts, part, parts_count, term_part, term_parts_count,
-};
+use crate::comparing::{compare_consts, compare_members, compare_parts};
+use crate::forms::is_error_const;
+use crate::parts::{const_part, const_parts_count, part, term_part, term_parts_count};
+use crate::starting::{Start, begin};
 use part_variances::handing;
 use relation_folds::error::{RelateResult, TypeErrorOf};
 use relation_steps::type_relation::TypeRelation;
@@ -25,14 +25,7 @@ use relation_terms::terms::{
     Const, DefId, GenericArg, GenericArgs, Interner, ItemOf, PartOf, Ty, TyKind,
 };
 
-// Whether a type, or a constant, stands for an error.
-pub(crate) fn is_error_of<I: Interner, R: TypeRelation<I>>(r: &R, ty: &Ty<I>) -> bool
-    requires { IsTrue (known ((R.state r.now).meaning.ty ty.now)) }
-    ensures { IsTrue result ↔ IsError ((R.state r.now).meaning.ty ty.now) }
-{
-    is_error(r.cx(), ty)
-}
-
+// Whether a constant stands for an error.
 pub(crate) fn is_error_const_of<I: Interner, R: TypeRelation<I>>(r: &R, constant: &Const<I>) -> bool
     requires { IsTrue (known ((R.state r.now).meaning.const_ constant.now)) }
     ensures { IsTrue result ↔ IsError ((R.state r.now).meaning.const_ constant.now) }
@@ -40,18 +33,19 @@ pub(crate) fn is_error_const_of<I: Interner, R: TypeRelation<I>>(r: &R, constant
     is_error_const(r.cx(), constant)
 }
 
-pub(crate) fn compare_tys_of<I: Interner, R: TypeRelation<I>>(
+// How relating two types begins, or why they are not of one form.
+#[inline(always)]
+pub(crate) fn start_of<I: Interner, R: TypeRelation<I>>(
     r: &R,
     a: &Ty<I>,
     b: &Ty<I>,
-) -> Result<(), TypeErrorOf<I>>
+) -> Result<Start, TypeErrorOf<I>>
     requires a_known { IsTrue (known ((R.state r.now).meaning.ty a.now)) }
     requires b_known { IsTrue (known ((R.state r.now).meaning.ty b.now)) }
-    requires no_error { HaveNoError ((R.state r.now).meaning.ty a.now) ((R.state r.now).meaning.ty b.now) }
-    ensures alike { OnOk result (AreOfOneForm ((R.state r.now).meaning.ty a.now) ((R.state r.now).meaning.ty b.now)) }
+    ensures starts { IfOk result (Starts (R.state r.now).meaning a.now b.now) }
     ensures errors { IfErr result (FormError (R.state r.now).meaning a.now b.now) }
 {
-    compare_tys(r.cx(), a, b)
+    begin(r.cx(), a, b)
 }
 
 pub(crate) fn compare_consts_of<I: Interner, R: TypeRelation<I>>(
@@ -101,22 +95,7 @@ pub(crate) fn compare_members_of<I: Interner, R: TypeRelation<I>>(
     compare_members(r.cx(), a, b, i)
 }
 
-pub(crate) fn is_by_parts_of<I: Interner, R: TypeRelation<I>>(r: &R, ty: &Ty<I>) -> bool
-    requires { IsTrue (known ((R.state r.now).meaning.ty ty.now)) }
-    ensures { IsTrue result ↔ IsByParts ((R.state r.now).meaning.ty ty.now) }
-{
-    is_by_parts(r.cx(), ty)
-}
-
 #[inline(always)]
-pub(crate) fn parts_count_of<I: Interner, R: TypeRelation<I>>(r: &R, ty: &Ty<I>) -> usize
-    requires { IsTrue (known ((R.state r.now).meaning.ty ty.now)) }
-    ensures counts { result ≡ count (direct_parts ((R.state r.now).meaning.ty ty.now)) }
-    ensures is_list { IsList (direct_parts ((R.state r.now).meaning.ty ty.now)) }
-{
-    parts_count(r.cx(), ty)
-}
-
 pub(crate) fn part_of<I: Interner, R: TypeRelation<I>>(r: &R, ty: &Ty<I>, i: usize) -> GenericArg<I>
     requires ty_known { IsTrue (known ((R.state r.now).meaning.ty ty.now)) }
     requires over_args { IsByParts ((R.state r.now).meaning.ty ty.now) → ⊥ }

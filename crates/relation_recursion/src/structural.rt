@@ -22,9 +22,9 @@ use crate::making::{make_const, make_part, make_ty};
 use crate::opening::{is_same_of, open_bodies};
 use crate::parts::{PartKind, kind_of_part, the_object};
 use crate::reading::{
-    compare_consts_of, compare_members_of, compare_parts_of, compare_tys_of, const_part_of,
-    const_parts_count_of, is_by_parts_of, is_error_const_of, is_error_of, named_place_of,
-    note_args, part_of, parts_count_of, term_part_of, term_parts_count_of,
+    compare_consts_of, compare_members_of, compare_parts_of, const_part_of, const_parts_count_of,
+    is_error_const_of, named_place_of, note_args, part_of, start_of, term_part_of,
+    term_parts_count_of,
 };
 use part_variances::variances::{const_variance_at, is_skipped, term_variance_at, variance_at};
 use relation_folds::error::{RelateFault, RelateResult, TypeError};
@@ -191,6 +191,7 @@ pub fn relate_with_variance<I: Interner, R: TypeRelation<I>>(
 /// parts in order, each at the variance of its place; a `ConstMismatch` of two lengths is the `ArraySize` of both. All
 /// other errors of the parts are handed on.
 #[cycle(relate)]
+#[inline(always)]
 pub fn structurally_relate_tys<I: Interner, R: TypeRelation<I>>(
     r: &mut R,
     a: &Ty<I>,
@@ -204,17 +205,20 @@ pub fn structurally_relate_tys<I: Interner, R: TypeRelation<I>>(
     ensures related { RelatedTermForms R.manner None (λ m. m.ty) (R.state r.old) (R.state r.new) a.now b.now result }
     ensures asks { TysAskOpen R.manner (R.state r.old) (R.state r.new) a.now b.now result }
 {
-    if is_error_of::<I, R>(r, a) {
+    let start = start_of::<I, R>(r, a, b)?;
+    let is_left = start.left_error;
+    if is_left {
         return Ok(*a);
     }
-    if is_error_of::<I, R>(r, b) {
+    let is_right = start.right_error;
+    if is_right {
         return Ok(*b);
     }
-    compare_tys_of::<I, R>(r, a, b)?;
-    if is_by_parts_of::<I, R>(r, a) {
+    let in_order = start.in_order;
+    if in_order {
         return Ok(the_ty(&relate_in_order(r, &Part::Ty(*a), &Part::Ty(*b))?));
     }
-    let n = parts_count_of::<I, R>(r, a);
+    let n = start.count;
     let mut answers = no_answers::<I, R, GenericArg<I>>(r);
     for i in 0..n {
         let x = part_of::<I, R>(r, a, i);

@@ -1,5 +1,6 @@
 -- What is solved of a problem is so of the regions of the context.
 use Rattle.std.proofs.Common.{◌≡◌, ℕ, ◌<◌, ◌≤◌, ◌^◌, List, [], ◌∷◌, length, get_or, sym, ◌∙◌, refl, subst, arith, All, map}
+use Rattle.std.proofs.Common.{Result, Ok, Err, IfOk}
 use Rattle.std.specs.Prelude.{IsPermutation}
 use Rattle.std.proofs.lemmas.List.{get_or_default, get_or-map, length-map}
 use Rattle.std.proofs.lemmas.List.Sorted.{Contains-permutation, IsPermutation-sym}
@@ -10,21 +11,26 @@ use Rattle.relation_terms.specs.Heads.{region_var}
 use Rattle.relation_terms.specs.Trees.{Tree}
 use Rattle.relation_semantics.specs.Contexts.{Context}
 use Rattle.relation_semantics.specs.ContextCalls.{IsNotVariable}
-use Rattle.relation_semantics.specs.Stores.{Store, IsRegionIn, IsTermIn, InContext}
+use Rattle.relation_semantics.specs.Stores.{Store, IsRegionIn, IsTermIn, InContext, IsSound}
 use Rattle.relation_regions.specs.declared.building.Pairs.{Pairs}
 use Rattle.relation_regions.specs.declared.standing.Standing.{Standing}
 use Rattle.relation_regions.specs.declared.decide.Decision.{Decision}
-use Rattle.relation_regions.specs.declared.decide.Decision.TheVariants.{Met, Unmet}
-use Rattle.relation_regions.specs.Demands.{Meets, Refutes, IfMet, IfUnmet}
+use Rattle.relation_regions.specs.declared.decide.Decision.TheVariants as decision
+use Rattle.relation_regions.specs.declared.solving.Solved.{Solved}
+use Rattle.relation_regions.specs.declared.solving.Solved.TheVariants.{Met, Unmet}
+use Rattle.relation_regions.specs.Demands.{Meets, Refutes}
+use Rattle.relation_regions.specs.Demands as demand
 use Rattle.std.specs.Global.{Vec}
 use Rattle.relation_regions.specs.Worlds.{static}
 use Rattle.relation_regions.specs.Numbering.{AreBelow}
-use Rattle.relation_regions.specs.Reading.{AreNumbered, IsProblem}
+use Rattle.relation_regions.specs.Reading.{numbered, trees_of, AreNumbered, IsProblem}
+use Rattle.relation_regions.specs.Numbered.{AreWithin, IsAnswer}
 use Rattle.relation_regions.specs.Solutions.{AreLeast, IsUnmetBy}
-use Rattle.relation_regions.specs.Solving.{IsFactIn, region_pair, region_pairs}
+use Rattle.relation_regions.specs.Solving.{IsFactIn, region_pair, region_pairs, IfMet, IfValued, IfUnmet}
+use Rattle.relation_regions.proofs.Decided.{has_solution, are_least, is_unmet}
 use Rattle.relation_regions.proofs.InWorlds.{SpeaksOfGiven}
 use Rattle.relation_regions.proofs.RegionNumbers.{region_known}
-use Rattle.relation_regions.proofs.Numbers.{standings_each}
+use Rattle.relation_regions.proofs.Numbers.{standings_each, asked_pairs, known_pairs}
 
 -- The region 'static is every context's.
 pub static_in : (st : Store) (t : Tree) → t ≡ static → IsRegionIn st t
@@ -77,61 +83,37 @@ fact_later c d f extends same h =
       shorter_no_variable = subst (IsNotVariable region_var) (sym shorter_is) h.shorter_no_variable;
     }
 
+-- The facts of a context are facts of such a later one.
+pub facts_kept : {Key Id Name : Type 0} (c d : Context Key Id Name)
+    (facts : List (OutlivesPredicate Key (RegionKey Key))) → Extends c.meaning d.meaning → d.store ≡ c.store →
+    All (IsFactIn c) facts → All (IsFactIn d) facts
+facts_kept c d facts extends same all i x lt = fact_later c d (get_or facts i x) extends same (all i x lt)
+
 -- The numbers of values are below the count of regions.
-pub values_below : {Key : Type 0} (facts : List (Tree × Tree)) (st : Store) (tree : RegionKey Key → Tree)
-    (keys : List (RegionKey Key)) (standings : List Standing) (asked : Pairs) (said : List ℕ) (known : Pairs)
-    (values : List (ℕ × ℕ)) → IsProblem facts st (map tree keys) standings asked said known →
-    Meets standings asked known values → All (AreBelow (length keys)) values
-values_below facts st tree keys standings asked said known values problem meets i d lt =
+pub values_below : {Key : Type 0} (keys : List (RegionKey Key)) (standings : List Standing) (asked known : Pairs)
+    (values : List (ℕ × ℕ)) → length standings ≡ length keys → Meets standings asked known values →
+    All (AreBelow (length keys)) values
+values_below keys standings asked known values e meets i d lt =
     let v = get_or values i d in
     let h = meets.only v.0 v.1 (i, lt, get_or_default values i v d lt) in
-    let e : length standings ≡ length keys = standings_each problem ∙ length-map keys tree in
     (subst (λ n. v.0 < n) e (h.0).0, subst (λ n. v.1 < n) e (h.1).0)
 
--- The regions have numbers of 32 bits.
-pub regions_fit : {Key : Type 0} (facts : List (Tree × Tree)) (st : Store) (tree : RegionKey Key → Tree)
-    (keys : List (RegionKey Key)) (standings : List Standing) (asked : Pairs) (said : List ℕ) (known : Pairs) →
-    IsProblem facts st (map tree keys) standings asked said known → length keys ≤ 2 ^ 32
-regions_fit facts st tree keys standings asked said known problem =
-    subst (λ n. n ≤ 2 ^ 32) (length-map keys tree) (problem.are_numbered).fits
-
--- A given number is below it.
-pub number_below : {Key : Type 0} (facts : List (Tree × Tree)) (st : Store) (tree : RegionKey Key → Tree)
-    (keys : List (RegionKey Key)) (standings : List Standing) (asked : Pairs) (said : List ℕ) (known : Pairs)
-    (i : ℕ) → IsProblem facts st (map tree keys) standings asked said known → i < length standings → i < length keys
-number_below facts st tree keys standings asked said known i problem lt =
-    subst (λ n. i < n) (standings_each problem ∙ length-map keys tree) lt
-
 -- The places of pairs that are asked for are below the count of what asks for them.
-pub places_below : (facts : List (Tree × Tree)) (st : Store) (trees : List Tree) (standings : List Standing)
-    (asked : Pairs) (said : List ℕ) (known : Pairs) (longer shorter : ℕ) (by : List ℕ) →
-    IsProblem facts st trees standings asked said known → Refutes standings asked known longer shorter by →
-    All (λ k. k < length said) by
-places_below facts st trees standings asked said known longer shorter by problem h i d lt =
-    subst (λ n. get_or by i d < n) (sym (problem.read).each_said) (h.asked_for i d lt)
+pub places_below : (asked : Pairs) (said by : List ℕ) → length said ≡ length asked.shorter.items →
+    All (λ k. k < length asked.shorter.items) by → All (λ k. k < length said) by
+places_below asked said by e all i d lt = subst (λ n. get_or by i d < n) (sym e) (all i d lt)
 
 -- What was decided, where it is known what.
 pub met_of : (standings s : List Standing) (asked known : Pairs) (d : Decision) (values : Vec (ℕ × ℕ)) →
-    s ≡ standings → d ≡ Met values → IfMet s asked known d → Meets standings asked known values.items
+    s ≡ standings → d ≡ decision.Met values → demand.IfMet s asked known d → Meets standings asked known values.items
 met_of standings s asked known d values e is h =
-    subst (λ u. Meets u asked known values.items) e (subst (λ u. IfMet s asked known u) is h)
+    subst (λ u. Meets u asked known values.items) e (subst (λ u. demand.IfMet s asked known u) is h)
 
 pub unmet_of : (standings s : List Standing) (asked known : Pairs) (d : Decision) (longer shorter : ℕ) (by : Vec ℕ) →
-    s ≡ standings → d ≡ Unmet longer shorter by → IfUnmet s asked known d →
+    s ≡ standings → d ≡ decision.Unmet longer shorter by → demand.IfUnmet s asked known d →
     Refutes standings asked known longer shorter by.items
 unmet_of standings s asked known d longer shorter by e is h =
-    subst (λ u. Refutes u asked known longer shorter by.items) e (subst (λ u. IfUnmet s asked known u) is h)
-
--- The same answer, by other names.
-pub least_like : (facts : List (Tree × Tree)) (st : Store) (values values' : List (Tree × Tree)) → values' ≡ values →
-    AreLeast facts st values → AreLeast facts st values'
-least_like facts st values values' e h = subst (AreLeast facts st) (sym e) h
-
-pub unmet_like : (facts : List (Tree × Tree)) (st : Store) (x x' y y' : Tree) (by by' : List ℕ) → x' ≡ x → y' ≡ y →
-    by' ≡ by → IsUnmetBy facts st x y by → IsUnmetBy facts st x' y' by'
-unmet_like facts st x x' y y' by by' e f same h =
-    subst (λ u. IsUnmetBy facts st u y' by') (sym e)
-    (subst (λ u. IsUnmetBy facts st x u by') (sym f) (subst (λ l. IsUnmetBy facts st x y l) (sym same) h))
+    subst (λ u. Refutes u asked known longer shorter by.items) e (subst (λ u. demand.IfUnmet s asked known u) is h)
 
 -- Values in another order.
 pub meets_sorted : (standings : List Standing) (asked known : Pairs) (values values' : List (ℕ × ℕ)) →
@@ -141,3 +123,47 @@ meets_sorted standings asked known values values' p h = record {
   each = λ a b v g d. Contains-permutation values values' (a, b) p (h.each a b v g d);
   only = λ a b c. h.only a b (Contains-permutation values' values (a, b) (IsPermutation-sym values values' p) c);
 }
+
+-- What is answered of numbers is so of the regions of the context that have them.
+module _ {Key Id Name : Type 0} (c : Context Key Id Name) (facts : List (OutlivesPredicate Key (RegionKey Key)))
+    (keys : List (RegionKey Key)) {standings : List Standing} {asked : Pairs} {said : List ℕ} {known : Pairs}
+    (problem : IsProblem (region_pairs c.meaning facts) c.store (trees_of c keys) standings asked said known) where
+  -- A problem's numbers are within its columns.
+  pub problem_within : AreWithin keys standings asked said known
+  problem_within =
+      let same : length (trees_of c keys) ≡ length keys = length-map keys (c.meaning).region in
+      record {
+        fits = subst (λ n. n ≤ 2 ^ 32) same (problem.are_numbered).fits;
+        each_stands = standings_each problem ∙ same;
+        each_said = (problem.read).each_said;
+        asked_pairs = asked_pairs problem;
+        known_pairs = known_pairs problem;
+      }
+
+  module _ (facts_in : All (IsFactIn c) facts) {E : Type 0} where
+    module _ (sound : IsSound c.store) where
+      pub met_answer : (r : Result (Solved Key) E) → IfOk r (IsAnswer keys standings asked said known) →
+          IfOk r (IfMet c facts)
+      met_answer (Ok (Met values)) h = has_solution problem (facts_speak c facts facts_in) sound h.meets
+      met_answer (Ok (Unmet longer shorter by)) h = tt
+      met_answer (Err e) h = tt
+
+      pub least_answer : (r : Result (Solved Key) E) → IfOk r (IsAnswer keys standings asked said known) →
+          IfOk r (IfValued c facts)
+      least_answer (Ok (Met values)) h = subst (AreLeast (region_pairs c.meaning facts) c.store)
+          (sym (h.values_are (c.meaning).region)) (are_least problem (facts_speak c facts facts_in) sound h.meets)
+      least_answer (Ok (Unmet longer shorter by)) h = tt
+      least_answer (Err e) h = tt
+
+    pub unmet_answer : (r : Result (Solved Key) E) → IfOk r (IsAnswer keys standings asked said known) →
+        IfOk r (IfUnmet c facts)
+    unmet_answer (Ok (Met values)) h = tt
+    unmet_answer (Ok (Unmet longer shorter by)) h =
+        let P : Tree → Tree → List ℕ → Type 0 = IsUnmetBy (region_pairs c.meaning facts) c.store in
+        let x = (c.meaning).region longer in
+        let y = (c.meaning).region shorter in
+        subst (λ u. P u y by.items) (sym (h.longer_at (c.meaning).region))
+        (subst (λ u. P (numbered (trees_of c keys) h.first) u by.items) (sym (h.shorter_at (c.meaning).region))
+        (subst (P (numbered (trees_of c keys) h.first) (numbered (trees_of c keys) h.second)) (sym h.by_is)
+        (is_unmet problem (facts_speak c facts facts_in) h.first h.second h.places h.refutes)))
+    unmet_answer (Err e) h = tt

@@ -109,9 +109,7 @@ module _ {Key Id Name : Type 0} (c : Context Key Id Name) (q : RegionConstraint 
     pair_kept g h = record {
       first = h.first;
       second = h.second;
-      longer_is = h.longer_is;
-      shorter_is = h.shorter_is;
-      said_is = h.said_is;
+      puts = h.puts;
       first_at = g.kept h.first x h.first_at;
       second_at = g.kept h.second y h.second_at;
     }

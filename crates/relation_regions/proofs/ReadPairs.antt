@@ -1,7 +1,7 @@
 -- What pairs say, as constraints are read one after another.
 use borrow.Author.Count.{below_more}
 use Rattle.std.proofs.Common.{◌≡◌, ℕ, ◌<◌, ◌+◌, List, [], ◌∷◌, ◌++◌, length, get_or, sym, ◌∙◌, ap, refl, subst, arith}
-use Rattle.std.proofs.Common.{inl, inr, map}
+use Rattle.std.proofs.Common.{inl, inr, map, Result, Ok, Err, OnOk}
 use Rattle.std.specs.List.{Contains}
 use Rattle.std.proofs.lemmas.List.{get_or_append_left, get_or_push, get_or_default, length-map}
 use Rattle.std.proofs.lemmas.List.Elements.{Contains-append_cases}
@@ -115,16 +115,16 @@ module _ (qs : List Constraint) where
   module _ (trees : List Tree) (bound j : ℕ) (a b : Tree) (p : Pairs) (said : List ℕ) (q : Pairs) (said' : List ℕ)
       (h : HaveRead qs bound trees p said) (adds : AddsPair trees a b j p said q said') where
     one_more : length q.shorter.items ≡ length p.shorter.items + 1
-    one_more = one_longer p.shorter.items q.shorter.items adds.second adds.shorter_is
+    one_more = one_longer p.shorter.items q.shorter.items adds.second (adds.puts).shorter_is
 
     -- An earlier pair is there still.
     earlier_there : (k : ℕ) (x y : Tree) → IsPairAt trees p k x y → IsPairAt trees q k x y
     earlier_there k x y e = record {
       below = omega (arith, e.below, one_more);
       longer_at = subst (λ i. IsAt trees i x) (sym (at_earlier p.longer.items q.longer.items adds.first k
-          adds.longer_is (omega (arith, e.below, h.each_longer)))) e.longer_at;
+          (adds.puts).longer_is (omega (arith, e.below, h.each_longer)))) e.longer_at;
       shorter_at = subst (λ i. IsAt trees i y) (sym (at_earlier p.shorter.items q.shorter.items adds.second k
-          adds.shorter_is e.below)) e.shorter_at;
+          (adds.puts).shorter_is e.below)) e.shorter_at;
     }
 
     -- The new one is there.
@@ -132,9 +132,9 @@ module _ (qs : List Constraint) where
     last_there = record {
       below = omega (arith, one_more);
       longer_at = subst (λ i. IsAt trees i a) (sym (at_last p.longer.items q.longer.items adds.first
-          (length p.shorter.items) adds.longer_is h.each_longer)) adds.first_at;
+          (length p.shorter.items) (adds.puts).longer_is h.each_longer)) adds.first_at;
       shorter_at = subst (λ i. IsAt trees i b) (sym (at_last p.shorter.items q.shorter.items adds.second
-          (length p.shorter.items) adds.shorter_is refl)) adds.second_at;
+          (length p.shorter.items) (adds.puts).shorter_is refl)) adds.second_at;
     }
 
     last_asked : Asks qs j a b → IsAsked qs trees q said' (length p.shorter.items)
@@ -142,7 +142,7 @@ module _ (qs : List Constraint) where
       longer = a;
       shorter = b;
       pair = last_there;
-      asks = subst (λ i. Asks qs i a b) (sym (at_last said said' j (length p.shorter.items) adds.said_is h.each_said))
+      asks = subst (λ i. Asks qs i a b) (sym (at_last said said' j (length p.shorter.items) (adds.puts).said_is h.each_said))
           asks;
     }
 
@@ -152,7 +152,7 @@ module _ (qs : List Constraint) where
       shorter = s.shorter;
       pair = earlier_there k s.longer s.shorter s.pair;
       asks = subst (λ i. Asks qs i s.longer s.shorter)
-          (sym (at_earlier said said' j k adds.said_is (omega (arith, lt, h.each_said)))) s.asks;
+          (sym (at_earlier said said' j k (adds.puts).said_is (omega (arith, lt, h.each_said)))) s.asks;
     }
 
     -- One more pair of what is asked for.
@@ -162,9 +162,9 @@ module _ (qs : List Constraint) where
         arith,
         one_more,
         h.each_longer,
-        one_longer p.longer.items q.longer.items adds.first adds.longer_is,
+        one_longer p.longer.items q.longer.items adds.first (adds.puts).longer_is,
       );
-      each_said = omega (arith, one_more, h.each_said, one_longer said said' j adds.said_is);
+      each_said = omega (arith, one_more, h.each_said, one_longer said said' j (adds.puts).said_is);
       each = λ k lt. below_more (λ k. IsAsked qs trees q said' k) (length p.shorter.items) earlier_asked
           (last_asked asks) k (omega (arith, lt, one_more));
       covered = λ i lt x y r. let c = h.covered i lt x y r in (c.0, earlier_there c.0 x y c.1);
@@ -251,7 +251,7 @@ module _ (facts : List (Tree × Tree)) (st : Store) (t0 t1 t2 t3 : List Tree) (e
     | inr of ↦ of_fact t of
   ]
 
-  pub are_problem : (standings : List Standing) (asked : Pairs) (said : List ℕ) (known : Pairs) (numbers : List ℕ) →
+  are_problem : (standings : List Standing) (asked : Pairs) (said : List ℕ) (known : Pairs) (numbers : List ℕ) →
       AreNumbered st t3 standings → HaveRead st.constraints (length st.constraints) t2 asked said →
       HaveRead (map stating facts) (length (map stating facts)) t3 known numbers →
       IsProblem facts st t3 standings asked said known
@@ -262,3 +262,15 @@ module _ (facts : List (Tree × Tree)) (st : Store) (t0 t1 t2 t3 : List Tree) (e
     read = read_kept st.constraints (length st.constraints) asked said third read;
     stated = (numbers, subst (λ b. HaveRead (map stating facts) b t3 known numbers) (length-map facts stating) stated);
   }
+
+-- The same where reading facts comes last.
+pub read_problem : {F : Type 0} (r : Result (Unit {0}) F) (facts : List (Tree × Tree)) (st : Store)
+    (t0 t1 t2 t3 : List Tree) (n : ℕ) (standings : List Standing) (asked : Pairs) (said : List ℕ) (known : Pairs)
+    (numbers : List ℕ) → t0 ≡ [] → GrowsBy (λ t. t ≡ static) t0 t1 → IsAt t1 n static →
+    GrowsBy (IsOfOne st.constraints) t1 t2 → HaveRead st.constraints (length st.constraints) t2 asked said →
+    OnOk r (AreNumbered st t3 standings) → OnOk r (GrowsBy (IsOfOne (map stating facts)) t2 t3) →
+    OnOk r (HaveRead (map stating facts) (length (map stating facts)) t3 known numbers) →
+    OnOk r (IsProblem facts st t3 standings asked said known)
+read_problem (Ok u) facts st t0 t1 t2 t3 n standings asked said known numbers e first at second read h third stated =
+    are_problem facts st t0 t1 t2 t3 e first n at second third standings asked said known numbers h read stated
+read_problem (Err f) facts st t0 t1 t2 t3 n standings asked said known numbers e first at second read h third stated = tt

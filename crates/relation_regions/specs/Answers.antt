@@ -1,14 +1,18 @@
 -- What is answered of two values in a context: whether facts entail that they are related.
-use Rattle.std.specs.Prelude.{◌≡◌, ◌↔◌, ℕ, List, [], Option, Some, None, IfOk, Result, All}
+use Rattle.std.specs.Prelude.{◌≡◌, ◌↔◌, List, [], Option, IfOk, Result, Ok, Err, All}
+use Rattle.std.specs.Global.{Vec}
 use Rattle.term_enums.specs.declared.StructurallyRelateAliases.TheVariants.{No}
 use Rattle.term_enums.specs.declared.Variance.{Variance}
 use Rattle.relation_terms.specs.declared.predicate.regions.OutlivesPredicate.{OutlivesPredicate}
 use Rattle.relation_terms.specs.declared.terms.keys.RegionKey.{RegionKey}
+use Rattle.relation_terms.specs.declared.terms.goal.Goal.{Goal as KeyedGoal}
+use Rattle.relation_terms.specs.declared.terms.keys.PredicateKey.{PredicateKey}
 use Rattle.relation_terms.specs.declared.terms.keys.ParamEnvKey.{ParamEnvKey}
 use Rattle.relation_terms.specs.Heads.{Head}
 use Rattle.relation_terms.specs.Meaning.{Meaning}
 use Rattle.relation_terms.specs.Trees.{Tree, Assign, apply}
 use Rattle.relation_folds.specs.declared.error.RelateFault.{RelateFault}
+use Rattle.relation_folds.specs.declared.error.RelateFault.TheVariants.{Memory, Budget, Unrelated}
 use Rattle.relation_folds.specs.Faults.{IfSpent}
 use Rattle.relation_semantics.specs.Contexts.{Context}
 use Rattle.relation_semantics.specs.Errors.{ErrorOf}
@@ -19,9 +23,10 @@ use Rattle.relation_semantics.specs.Stores.{Store}
 use Rattle.relation_combining.specs.Solving.{solver_settings}
 use Rattle.context_relation.specs.Completing.{AreNeverRelated}
 use Rattle.context_relation.specs.Relating.{term_in}
-use Rattle.relation_regions.specs.Solutions.{HasSolution, IsUnmetBy}
 use Rattle.relation_regions.specs.Solving.{region_pairs}
 use Rattle.relation_regions.specs.Worlds.{FactsSay, IsSolution}
+use Rattle.relation_regions.specs.declared.solving.Solved.{Solved}
+use Rattle.relation_regions.specs.declared.solving.Solved.TheVariants.{Met, Unmet as NotMet}
 use Rattle.relation_regions.specs.declared.subtyping.Subtyping.{Subtyping}
 use Rattle.relation_regions.specs.declared.subtyping.Subtyping.TheVariants.{Holds, Clash, Unmet}
 use Rattle.relation_regions.specs.Entailment.{FactsEntail, AreBareValues, RecordFollows}
@@ -40,12 +45,17 @@ pub record MayBeRelated (facts : List (Tree × Tree)) (c : Items) (st : Store) (
   pub solution : IsSolution facts st world values
   pub related : All (GoalHolds c world values) goals → Rel c world e (at v) (apply values a) (apply values b)
 
--- What is recorded in a context can be so under facts, or a constraint that they don't say would have to hold.
-abbrev pub IsSolved : {Key Id Name : Type 0} → Context Key Id Name → List (OutlivesPredicate Key (RegionKey Key)) →
-    Option (OutlivesPredicate Key (RegionKey Key)) → Type 0
-IsSolved c facts None = HasSolution (region_pairs c.meaning facts) c.store
-IsSolved c facts (Some p) = (by : List ℕ) × IsUnmetBy (region_pairs c.meaning facts) c.store ((c.meaning).region p.0)
-    ((c.meaning).region p.1) by
+module _ {Key Id Name : Type 0} where
+  -- What comes of a fault of relating: a clash is an answer.
+  abbrev pub clash_of : RelateFault Key Id Name → Result (Subtyping Key Id Name) (RelateFault Key Id Name)
+  clash_of (Unrelated why) = Ok (Clash why)
+  clash_of Budget = Err Budget
+  clash_of Memory = Err Memory
+
+  -- What is answered where goals are left, by what was solved.
+  abbrev pub told : Vec (KeyedGoal Key (PredicateKey Key)) → Solved Key → Subtyping Key Id Name
+  told goals (Met values) = Holds goals
+  told goals (NotMet longer shorter by) = Unmet (record { 0 = longer; 1 = shorter })
 
 -- Between what a context is before the call and after it, which `state` shows.
 module _ {S Key Id Name : Type 0} (state : S → Context Key Id Name) (old new : S)

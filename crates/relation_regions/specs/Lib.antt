@@ -9,6 +9,7 @@ pub mod Numbering
 pub mod Reading
 pub mod Solutions
 pub mod Solving
+pub mod Numbered
 pub mod Worlds
 pub mod Entailment
 pub mod Answers

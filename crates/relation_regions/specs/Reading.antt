@@ -70,14 +70,18 @@ Asks qs j a b = (j < length qs) × IsPair (get_or qs j no_constraint) a b
 abbrev pub stating : Tree × Tree → Constraint
 stating f = outlives_constraint f.0 f.1
 
--- A pair was put behind the others, with the number of what asks for it.
+-- A pair of numbers was put behind the others, with the number of what asks for it.
+pub record PutsPair (first second j : ℕ) (p : Pairs) (said : List ℕ) (q : Pairs) (said' : List ℕ) : Type 0 where
+  pub longer_is : q.longer.items ≡ p.longer.items ++ first ∷ []
+  pub shorter_is : q.shorter.items ≡ p.shorter.items ++ second ∷ []
+  pub said_is : said' ≡ said ++ j ∷ []
+
+-- The numbers of two regions were.
 pub record AddsPair (trees : List Tree) (a b : Tree) (j : ℕ) (p : Pairs) (said : List ℕ) (q : Pairs) (said' : List ℕ) :
     Type 0 where
   pub first : ℕ
   pub second : ℕ
-  pub longer_is : q.longer.items ≡ p.longer.items ++ first ∷ []
-  pub shorter_is : q.shorter.items ≡ p.shorter.items ++ second ∷ []
-  pub said_is : said' ≡ said ++ j ∷ []
+  pub puts : PutsPair first second j p said q said'
   pub first_at : IsAt trees first a
   pub second_at : IsAt trees second b
 

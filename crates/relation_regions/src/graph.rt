@@ -2,6 +2,7 @@
 ghost use Rattle.std.specs.Prelude.{◌≡◌, ◌<◌, ◌++◌, [], ◌∷◌, length, OnOk, IfOk};
 ghost use Rattle.relation_regions.specs.Graphs.{IsGraph};
 
+use crate::rows::push_row;
 use std::alloc::Global;
 use term_enums::OutOfMemory;
 
@@ -43,9 +44,15 @@ impl Graph {
         ensures added_from { OnOk result (self.new.from.items ≡ self.old.from.items ++ from ∷ []) }
         ensures added_to { OnOk result (self.new.to.items ≡ self.old.to.items ++ to ∷ []) }
     {
-        self.from.push(from)?;
-        self.to.push(to)?;
-        self.earlier.push(self.latest[to])?;
+        let latest = self.latest[to];
+        push_row(
+            &mut self.from,
+            &mut self.to,
+            &mut self.earlier,
+            from,
+            to,
+            latest,
+        )?;
         self.latest[to] = self.to.len();
         Ok(())
     }

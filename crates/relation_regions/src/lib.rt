@@ -9,6 +9,7 @@ mod graph;
 pub mod numbered;
 mod numbering;
 mod reading;
+mod rows;
 mod search;
 mod solving;
 mod standing;

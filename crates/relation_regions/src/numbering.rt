@@ -1,5 +1,5 @@
 //! Regions, each of which has a number.
-ghost use Rattle.std.specs.Prelude.{◌≡◌, ◌<◌, ◌≤◌, ◌^◌, [], All, length, IfOk, OnOk};
+ghost use Rattle.std.specs.Prelude.{◌≡◌, ◌<◌, ◌≤◌, ◌^◌, All, length, IfOk, OnOk};
 ghost use Rattle.node_table.specs.Finding.{HasAt};
 ghost use Rattle.relation_regions.specs.Numbering.{AddsRegion, IsRegionAt, AreRegionsOf, AreBelow};
 
@@ -19,17 +19,6 @@ pub(crate) struct Regions<X: Eq + Hash> {
 }
 
 impl<X: Copy + Eq + Hash> Regions<X> {
-    /// No regions.
-    pub(crate) fn new(alloc: Global) -> Self
-        ensures table { result.table ≡ [] }
-        ensures standings { result.standings.items ≡ [] }
-    {
-        Regions {
-            table: NodeTable::new(alloc),
-            standings: Vec::new(alloc),
-        }
-    }
-
     /// The number of a region. Where it has none yet, it gets the next one, and is this.
     ///
     /// After `OutOfMemory` the regions are of no use.

@@ -5,19 +5,18 @@ ghost use Rattle.relation_semantics.specs.Stores.{ConstraintIn};
 ghost use Rattle.relation_semantics.specs.Constraints.{constraint_of};
 ghost use Rattle.relation_semantics.specs.Contexts.{HasRegion};
 ghost use Rattle.relation_regions.specs.Worlds.{IsOf};
-ghost use Rattle.relation_regions.specs.Reading.{standing_in, AddsPair, AddsAsked, AreNone, HaveRead, IsOfOne, stating};
-ghost use Rattle.relation_regions.specs.Reading.{trees_of, HasNumbered, HasNumber, NumbersMore};
+ghost use Rattle.relation_regions.specs.Reading.{standing_in, AddsPair, AddsAsked, AreNone, HaveRead, IsOfOne};
+ghost use Rattle.relation_regions.specs.Reading.{stating, trees_of, HasNumbered, HasNumber, NumbersMore};
 ghost use Rattle.relation_regions.specs.Solving.{IsFactIn, region_pairs};
 
 use crate::building::Pairs;
 use crate::numbering::Regions;
+use crate::rows::push_row;
 use crate::solving::RegionOutlivesPredicate;
 use crate::standing::Standing;
-use kept_records::RecordedRegions;
 use relation_semantics::infer_ctxt::InferCtxtLike;
 use relation_terms::predicate::{OutlivesPredicate, RegionConstraint};
 use relation_terms::terms::{GenericArgKind, Interner, Keys, Region, RegionKind};
-use std::alloc::Global;
 use term_enums::OutOfMemory;
 
 /// Pairs of numbered regions, and of each the number of what asks for it.
@@ -25,18 +24,6 @@ use term_enums::OutOfMemory;
 pub(crate) struct NumberedPairs {
     pub(crate) pairs: Pairs,
     pub(crate) asked_by: Vec<usize>,
-}
-
-impl NumberedPairs {
-    /// No pairs.
-    pub(crate) fn new(alloc: Global) -> NumberedPairs
-        ensures { AreNone result.pairs result.asked_by.items }
-    {
-        NumberedPairs {
-            pairs: Pairs::new(alloc),
-            asked_by: Vec::new(alloc),
-        }
-    }
 }
 
 // What a region of the context is.
@@ -96,10 +83,14 @@ fn add_pair<C: InferCtxtLike>(
 {
     let first = number(ctx, regions, longer)?;
     let second = number(ctx, regions, shorter)?;
-    pairs.pairs.longer.push(first)?;
-    pairs.pairs.shorter.push(second)?;
-    pairs.asked_by.push(asked_by)?;
-    Ok(())
+    push_row(
+        &mut pairs.pairs.longer,
+        &mut pairs.pairs.shorter,
+        &mut pairs.asked_by,
+        first,
+        second,
+        asked_by,
+    )
 }
 
 // The pairs that a constraint asks for.
@@ -139,12 +130,15 @@ fn read_constraint<C: InferCtxtLike>(
 }
 
 /// The pairs that the constraints of a context ask for.
-pub(crate) fn read_constraints<C: RecordedRegions>(
+pub(crate) fn read_constraints<C: InferCtxtLike>(
     ctx: &C,
     regions: &mut Regions<<C::Interner as Keys>::Key>,
     pairs: &mut NumberedPairs,
+    constraints: &[RegionConstraint<<C::Interner as Keys>::Key>],
 ) -> Result<(), OutOfMemory>
     requires lawful { (C.state ctx.now).lawful }
+    requires constraints { let c = C.state ctx.now in
+        map (constraint_of c.meaning) constraints.now ≡ (c.store).constraints }
     requires numbered { HasNumbered (C.state ctx.now) regions.old.table regions.old.standings.items }
     requires none { AreNone pairs.old.pairs pairs.old.asked_by.items }
     ensures numbered { OnOk result (HasNumbered (C.state ctx.now) regions.new.table regions.new.standings.items) }
@@ -153,7 +147,6 @@ pub(crate) fn read_constraints<C: RecordedRegions>(
     ensures read { let c = C.state ctx.now in let qs = (c.store).constraints in
         OnOk result (HaveRead qs (length qs) (trees_of c regions.new.table) pairs.new.pairs pairs.new.asked_by.items) }
 {
-    let constraints = ctx.region_constraints();
     for index in 0..constraints.len() {
         read_constraint(ctx, regions, pairs, constraints[index], index)?;
     }

@@ -4,6 +4,7 @@ ghost use Rattle.relation_regions.specs.Graphs.{IsGraph, IsPath};
 ghost use Rattle.relation_regions.specs.Searches.{IsSearch, Keeps, IsFound, HasPredecessors, FindsAll};
 
 use crate::graph::Graph;
+use crate::rows::push_row;
 use std::alloc::Global;
 use term_enums::OutOfMemory;
 
@@ -58,9 +59,14 @@ impl Search {
         let node = graph.from[edge];
         if self.places[node].is_none() {
             self.places[node] = Some(self.nodes.len());
-            self.nodes.push(node)?;
-            self.edges.push(edge)?;
-            self.onward.push(place)?;
+            push_row(
+                &mut self.nodes,
+                &mut self.edges,
+                &mut self.onward,
+                node,
+                edge,
+                place,
+            )?;
         }
         Ok(())
     }

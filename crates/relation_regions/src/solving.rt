@@ -1,16 +1,20 @@
 //! Solving: can the regions of a context be as it has recorded?
-ghost use Rattle.std.specs.Prelude.{◌≡◌, ◌<◌, All, length, get_or, map, IfOk};
+ghost use Rattle.std.specs.Prelude.{◌≡◌, ◌<◌, [], All, length, get_or, map, IfOk, OnOk};
+ghost use Rattle.relation_semantics.specs.Constraints.{constraint_of};
 ghost use Rattle.relation_semantics.specs.ContextCalls.{Grows, KeepsMarks};
 ghost use Rattle.relation_regions.specs.Worlds.{static};
-ghost use Rattle.relation_regions.specs.Reading.{trees_of, IsProblem};
+ghost use Rattle.relation_regions.specs.Reading.{trees_of, AreNone, IsProblem};
+ghost use Rattle.relation_regions.specs.Numbered.{AreWithin, IsAnswer};
 ghost use Rattle.relation_regions.specs.Solving.{IsFactIn, IfMet, IfValued, IfUnmet, region_pairs};
 
+use crate::building::Pairs;
 use crate::numbered::{self, Decision};
 use crate::numbering::Regions;
 use crate::reading::{NumberedPairs, number, read_constraints, read_facts};
 use kept_records::RecordedRegions;
+use node_table::NodeTable;
 use relation_semantics::infer_ctxt::InferCtxtLike;
-use relation_terms::predicate::OutlivesPredicate;
+use relation_terms::predicate::{OutlivesPredicate, RegionConstraint};
 use relation_terms::terms::{Interner, Keys, Region, RegionKey, RegionKind};
 use std::alloc::Global;
 use std::hash::Hash;
@@ -40,30 +44,55 @@ struct Problem<X: Eq + Hash> {
     known: NumberedPairs,
 }
 
-// The constraints of a context, and facts. The region 'static has the number 0.
-fn read<C: RecordedRegions>(
+impl<X: Copy + Eq + Hash> Problem<X> {
+    // No regions, and no pairs.
+    fn new(alloc: Global) -> Self
+        ensures table { result.regions.table ≡ [] }
+        ensures standings { result.regions.standings.items ≡ [] }
+        ensures asked { AreNone result.asked.pairs result.asked.asked_by.items }
+        ensures known { AreNone result.known.pairs result.known.asked_by.items }
+    {
+        Problem {
+            regions: Regions {
+                table: NodeTable::new(alloc),
+                standings: Vec::new(alloc),
+            },
+            asked: NumberedPairs {
+                pairs: Pairs::new(alloc),
+                asked_by: Vec::new(alloc),
+            },
+            known: NumberedPairs {
+                pairs: Pairs::new(alloc),
+                asked_by: Vec::new(alloc),
+            },
+        }
+    }
+}
+
+// The constraints of a context, and facts, are read. The region 'static gets the number 0.
+fn read<C: InferCtxtLike>(
     ctx: &C,
+    problem: &mut Problem<<C::Interner as Keys>::Key>,
     re_static: Region<C::Interner>,
+    constraints: &[RegionConstraint<<C::Interner as Keys>::Key>],
     facts: &[RegionOutlivesPredicate<<C::Interner as Keys>::Key>],
-) -> Result<Problem<<C::Interner as Keys>::Key>, OutOfMemory>
+) -> Result<(), OutOfMemory>
     requires lawful { (C.state ctx.now).lawful }
     requires is_static { ((C.state ctx.now).meaning).region re_static ≡ static }
+    requires constraints { let c = C.state ctx.now in
+        map (constraint_of c.meaning) constraints.now ≡ (c.store).constraints }
     requires facts_in { All (IsFactIn (C.state ctx.now)) facts.now }
-    ensures { let c = C.state ctx.now in IfOk result (λ p. IsProblem (region_pairs c.meaning facts.now) c.store
-        (trees_of c p.regions.table) p.regions.standings.items p.asked.pairs p.asked.asked_by.items p.known.pairs) }
+    requires table { problem.old.regions.table ≡ [] }
+    requires standings { problem.old.regions.standings.items ≡ [] }
+    requires asked { AreNone problem.old.asked.pairs problem.old.asked.asked_by.items }
+    requires known { AreNone problem.old.known.pairs problem.old.known.asked_by.items }
+    ensures { let c = C.state ctx.now in let p = problem.new in
+        OnOk result (IsProblem (region_pairs c.meaning facts.now) c.store (trees_of c p.regions.table)
+        p.regions.standings.items p.asked.pairs p.asked.asked_by.items p.known.pairs) }
 {
-    let alloc = ctx.cx().alloc();
-    let mut regions = Regions::new(alloc);
-    number(ctx, &mut regions, re_static)?;
-    let mut asked = NumberedPairs::new(alloc);
-    read_constraints(ctx, &mut regions, &mut asked)?;
-    let mut known = NumberedPairs::new(alloc);
-    read_facts(ctx, &mut regions, &mut known, facts)?;
-    Ok(Problem {
-        regions,
-        asked,
-        known,
-    })
+    number(ctx, &mut problem.regions, re_static)?;
+    read_constraints(ctx, &mut problem.regions, &mut problem.asked, constraints)?;
+    read_facts(ctx, &mut problem.regions, &mut problem.known, facts)
 }
 
 // What asks for the pairs at these places.
@@ -82,21 +111,16 @@ fn asked_by(
     Ok(by)
 }
 
-// Whether the regions of a context can be as it has recorded. The region 'static is handed in.
-fn solve_given<C: RecordedRegions>(
-    ctx: &C,
-    re_static: Region<C::Interner>,
-    facts: &[RegionOutlivesPredicate<<C::Interner as Keys>::Key>],
-) -> Result<Solved<<C::Interner as Keys>::Key>, OutOfMemory>
-    requires lawful { (C.state ctx.now).lawful }
-    requires is_static { ((C.state ctx.now).meaning).region re_static ≡ static }
-    requires facts_in { All (IsFactIn (C.state ctx.now)) facts.now }
-    ensures met { IfOk result (IfMet (C.state ctx.now) facts.now) }
-    ensures least { IfOk result (IfValued (C.state ctx.now) facts.now) }
-    ensures unmet { IfOk result (IfUnmet (C.state ctx.now) facts.now) }
+// Whether numbered regions can be as it is asked, by the regions that have the numbers.
+fn answer<X: Copy + Eq + Hash>(
+    alloc: Global,
+    problem: &Problem<X>,
+) -> Result<Solved<X>, OutOfMemory>
+    requires { let p = problem.now in AreWithin p.regions.table p.regions.standings.items p.asked.pairs
+        p.asked.asked_by.items p.known.pairs }
+    ensures { let p = problem.now in IfOk result (IsAnswer p.regions.table p.regions.standings.items p.asked.pairs
+        p.asked.asked_by.items p.known.pairs) }
 {
-    let alloc = ctx.cx().alloc();
-    let problem = read(ctx, re_static, facts)?;
     let standings = problem.regions.standings.as_slice();
     match numbered::solve(alloc, standings, &problem.asked.pairs, &problem.known.pairs)? {
         Decision::Met(values) => {
@@ -165,5 +189,14 @@ pub fn solve<C: RecordedRegions>(
     ensures unmet { IfOk result (IfUnmet (C.state ctx.new) facts.now) }
 {
     let re_static = make_static(ctx)?;
-    solve_given(ctx, re_static, facts)
+    let alloc = ctx.cx().alloc();
+    let mut problem = Problem::new(alloc);
+    read(
+        &*ctx,
+        &mut problem,
+        re_static,
+        ctx.region_constraints(),
+        facts,
+    )?;
+    answer(alloc, &problem)
 }

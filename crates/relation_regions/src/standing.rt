@@ -2,13 +2,26 @@
 ghost use Rattle.std.specs.Prelude.{◌≡◌};
 ghost use Rattle.relation_regions.specs.Standings.{is_given, is_placeholder, is_beyond};
 
+use std::alloc::AllocError;
+
 /// A region with a name of its own, which all universes can name, a placeholder of a universe, or a variable of one.
-#[derive(Clone, Copy, Drop)]
 pub enum Standing {
     Named,
     Placeholder(usize),
     Variable(usize),
 }
+
+impl Clone for Standing {
+    ghost is_clone = { λ source copy. copy ≡ source };
+
+    ghost is_infallible = { λ _. Unit {0} };
+
+    fn clone(&self) -> Result<Self, AllocError> {
+        Ok(*self)
+    }
+}
+
+impl Copy for Standing {}
 
 impl Standing {
     /// Whether it is no variable.

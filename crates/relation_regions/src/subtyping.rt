@@ -1,22 +1,21 @@
 //! Deciding whether one term is a subtype of another, under facts on regions: the two are related, and what that
 //! records is solved.
-ghost use Rattle.std.specs.Prelude.{◌≡◌, All, IfOk};
+ghost use Rattle.std.specs.Prelude.{◌≡◌, All};
 ghost use Rattle.relation_terms.specs.Meaning.{Extends};
 ghost use Rattle.relation_folds.specs.Faults.{IfSpent};
 ghost use Rattle.relation_semantics.specs.Steps.{IsLater};
 ghost use Rattle.relation_semantics.specs.Stores.{IsSound};
-ghost use Rattle.relation_semantics.specs.ContextCalls.{Grows};
 ghost use Rattle.relation_regions.specs.Solving.{IsFactIn};
 ghost use Rattle.type_relations.specs.Contract.{CanRelate};
-ghost use Rattle.relation_regions.specs.Answers.{IsSolved, Decides, FollowsStill, IsCertain, IsClash, IsUnsaid};
-ghost use Rattle.relation_regions.specs.Answers.{IsPossible};
+ghost use Rattle.relation_regions.specs.Answers.{Decides, FollowsStill, IsCertain, IsClash, IsUnsaid, IsPossible};
+ghost use Rattle.relation_regions.specs.Answers.{clash_of, told};
 
 use crate::solving::{RegionOutlivesPredicate, Solved, solve};
 use kept_records::RecordedRegions;
 use relation_folds::error::{RelateFault, RelateResult, TypeError};
 use relation_recursion::relatable::Relate;
 use relation_terms::predicate::OutlivesPredicate;
-use relation_terms::terms::{Goal, Keys, OutOfMemory, ParamEnv, PredicateKey, Span, Variance};
+use relation_terms::terms::{Goal, Keys, ParamEnv, PredicateKey, Span, Variance};
 use type_relations::relate::solver_relating::RelateExt;
 
 /// Whether one term is a subtype of another where nothing is known of regions but facts.
@@ -84,34 +83,38 @@ pub fn decide_subtype<C: RecordedRegions, T: Relate<C::Interner>>(
 {
     let goals = match ctx.relate(param_env, lhs, variance, rhs, span) {
         Ok(goals) => goals,
-        Err(RelateFault::Unrelated(why)) => return Ok(Subtyping::Clash(why)),
-        Err(RelateFault::Budget) => return Err(RelateFault::Budget),
-        Err(RelateFault::Memory) => return Err(RelateFault::Memory),
+        Err(fault) => return without_goals(fault),
     };
-    match unmet(ctx, facts)? {
-        None => Ok(Subtyping::Holds(goals)),
-        Some(unmet) => Ok(Subtyping::Unmet(unmet)),
+    let solved = solve(ctx, facts)?;
+    Ok(with_goals(goals, &solved))
+}
+
+// What comes of it where the two aren't related: a clash is an answer.
+fn without_goals<X: Copy, D: Copy, N: Copy>(
+    fault: RelateFault<X, D, N>,
+) -> Result<Subtyping<X, D, N>, RelateFault<X, D, N>>
+    ensures { result ≡ clash_of fault }
+{
+    match fault {
+        RelateFault::Unrelated(why) => Ok(Subtyping::Clash(why)),
+        RelateFault::Budget => Err(RelateFault::Budget),
+        RelateFault::Memory => Err(RelateFault::Memory),
     }
 }
 
-// What would have to be so of regions and doesn't follow of the facts, if anything would by what is recorded.
-fn unmet<C: RecordedRegions>(
-    ctx: &mut C,
-    facts: &[RegionOutlivesPredicate<<C::Interner as Keys>::Key>],
-) -> Result<Option<RegionOutlivesPredicate<<C::Interner as Keys>::Key>>, OutOfMemory>
-    requires lawful { (C.state ctx.old).lawful }
-    requires facts_in { All (IsFactIn (C.state ctx.old)) facts.now }
-    ensures grows { Grows (C.state ctx.old) (C.state ctx.new) }
-    ensures same_record { (C.state ctx.new).store ≡ (C.state ctx.old).store }
-    ensures solved { IfOk result (IsSolved (C.state ctx.new) facts.now) }
+// What is answered where they are, if the goals hold: by what is solved.
+fn with_goals<X: Copy, D: Copy, N: Copy>(
+    goals: Vec<Goal<X, PredicateKey<X>>>,
+    solved: &Solved<X>,
+) -> Subtyping<X, D, N>
+    ensures { result ≡ told goals solved.now }
 {
-    let solved = solve(ctx, facts)?;
-    match &solved {
-        Solved::Met(_) => Ok(None),
+    match solved {
+        Solved::Met(_) => Subtyping::Holds(goals),
         Solved::Unmet {
             longer,
             shorter,
             ..
-        } => Ok(Some(OutlivesPredicate(*longer, *shorter))),
+        } => Subtyping::Unmet(OutlivesPredicate(*longer, *shorter)),
     }
 }

@@ -1,2 +1,3 @@
 mod Arguments
+mod Finding
 mod Related

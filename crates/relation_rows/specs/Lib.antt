@@ -1,2 +1,2 @@
-pub mod Named
+pub mod Rows
 pub mod Terms

@@ -1,53 +1,89 @@
 //! What calls answer that no question asks.
-ghost use Rattle.std.specs.Prelude.{IfOk, IsSome};
-ghost use Rattle.relation_terms.specs.Predicates.{item_parent};
-ghost use Rattle.reference_interner.specs.Adding.{meaning_in};
 
 mod deepening;
 mod delaying;
 mod growing;
+mod interning;
 mod making;
 mod relating;
 mod towers;
 mod writing;
 
 use crate::doubling::count_terms_and_nodes;
-use crate::running::RowFault;
+use crate::running::{RowFault, asked};
 use deepening::write_deep;
 use delaying::write_found;
 use growing::write_yielded;
-use reference_interner::{
-    DefKind, GenericParam, GenericParamKind, ItemId, ItemKind, RefInterner, SymbolId,
-};
-use relating::{write_polarities, write_traits};
+use interning::{PARTIAL_EQ, write_terms, write_unrelated};
 use relation_terms::predicate::AliasTermKind;
 use relation_terms::terms::{
-    BoundConstness, FreeConstAliasId, ImplPolarity, OutOfMemory, PredicatePolarity, TraitId,
-    Variance,
+    BoundConstness, FreeConstAliasId, ImplPolarity, OutOfMemory, PredicatePolarity,
 };
 use std::alloc::Global;
-use std::collections::HashMap;
 use std::fmt::{self, Write};
-use text_terms::printing::{ItemText, Texts};
 use towers::write_goals;
-use writing::{write_constraints, write_object, write_projection, write_rebased};
 
-// The names of parameters, and four traits.
-const OF: SymbolId = SymbolId(0);
+// A call that no question makes.
+enum Call {
+    // What a map that lets its first insertions go finds by a number, of those from 1 to 33.
+    Found(u32),
+    // What a negative polarity, a constness, a negative impl and an alias of a constant are called.
+    Names,
+    Terms(Terms),
+    // Why what differs so is not related.
+    Traits(Differing),
+    // How many terms are walked of a type that is doubled 60 times, and how many nodes are added for it again.
+    Counts,
+    // How many goals relating two towers of 60 pairs leaves.
+    Goals,
+    // Whether `bool` and `char` under 1,000 slices may unify, and whether they are related.
+    Deep,
+    // How many predicates are yielded where only a limit ends an elaboration, and what is answered then.
+    Yielded,
+}
 
-const OWN: SymbolId = SymbolId(1);
+// What is made of terms.
+#[derive(Clone, Copy)]
+pub(super) enum Terms {
+    // The arguments of an inherent alias, rebased onto an impl.
+    Rebased,
+    // Of an associated type the trait, and its own arguments.
+    Projected,
+    // A trait without the type that implements it, and with another one.
+    Erased,
+    // What outlives which where two regions are equal, and which constraints are trivial.
+    Regions,
+}
 
-const LONGER: SymbolId = SymbolId(2);
+// How two predicates of a trait differ, or two references of traits.
+#[derive(Clone, Copy)]
+pub(super) enum Differing {
+    Polarity,
+    Trait,
+}
 
-const SHORTER: SymbolId = SymbolId(3);
-
-const STREAMING_ITERATOR: ItemId = ItemId(0);
-
-const PARTIAL_EQ: ItemId = ItemId(1);
-
-const TR: ItemId = ItemId(2);
-
-const US: ItemId = ItemId(3);
+// The rows that ask by calls.
+static CALLS: [(&str, &[Call]); 10] = [
+    ("r06", &[Call::Found(32), Call::Found(33)]),
+    ("r32", &[Call::Names]),
+    (
+        "r49",
+        &[Call::Terms(Terms::Rebased), Call::Terms(Terms::Projected)],
+    ),
+    ("r50", &[Call::Terms(Terms::Erased)]),
+    ("r51", &[Call::Terms(Terms::Regions)]),
+    (
+        "r52",
+        &[
+            Call::Traits(Differing::Polarity),
+            Call::Traits(Differing::Trait),
+        ],
+    ),
+    ("r61", &[Call::Counts]),
+    ("r62", &[Call::Goals]),
+    ("r64", &[Call::Deep]),
+    ("r65", &[Call::Yielded]),
+];
 
 // What refuses memory to a call refuses it to its row.
 impl From<OutOfMemory> for RowFault {
@@ -62,83 +98,25 @@ impl From<fmt::Error> for RowFault {
     }
 }
 
-// The texts of the names and the traits.
-fn make_texts(alloc: Global) -> Result<Texts<'static, ItemId, SymbolId>, OutOfMemory> {
-    let mut names = HashMap::new(alloc);
-    for (name, text) in [(OF, "T"), (OWN, "P"), (LONGER, "'a"), (SHORTER, "'b")] {
-        let _ = names.insert(name, text)?;
-    }
-    let mut items = HashMap::new(alloc);
-    let _ = items.insert(STREAMING_ITERATOR, ItemText::new("StreamingIterator"))?;
-    let _ = items.insert(PARTIAL_EQ, ItemText::new("PartialEq"))?;
-    let _ = items.insert(TR, ItemText::new("Tr"))?;
-    let _ = items.insert(US, ItemText::new("Us"))?;
-    Ok(Texts { names, items })
+// Writes the answers to questions.
+pub(super) fn write_asked<W: Write>(
+    alloc: Global,
+    questions: &str,
+    out: &mut W,
+) -> Result<(), RowFault> {
+    let answers = asked(alloc, questions)?;
+    out.write_str(answers.as_str())?;
+    Ok(())
 }
 
 // Writes what a negative polarity, a constness, a negative impl and an alias of a constant are called.
-fn write_names<W: Write>(out: &mut W) -> fmt::Result {
+fn write_names<W: Write>(out: &mut W) -> Result<(), RowFault> {
     let def_id = FreeConstAliasId(PARTIAL_EQ);
-    let kind = AliasTermKind::FreeConst { def_id };
-    write!(out, "{} | ", PredicatePolarity::Negative)?;
-    write!(out, "{} | ", BoundConstness::Maybe)?;
-    write!(out, "{} | ", ImplPolarity::Negative.as_str())?;
-    out.write_str(kind.descr())
-}
-
-// The first trait, and an associated type of it.
-fn add_associated(cx: &mut RefInterner, alloc: Global) -> Result<ItemId, OutOfMemory>
-    ensures { IfOk result (λ d. IsSome (item_parent (meaning_in cx.new) d)) }
-{
-    let kind = GenericParamKind::Type;
-    let mut params = Vec::new(alloc);
-    params.push(GenericParam { kind, name: OF })?;
-    let mut variances = Vec::new(alloc);
-    variances.push(Variance::Invariant)?;
-    let def = DefKind::Trait;
-    let of = cx.add_item(ItemKind { def, params }, OF, variances)?;
-    let def = DefKind::AssocTy(TraitId(of));
-    let params = Vec::new(alloc);
-    let item = cx.add_item(ItemKind { def, params }, OF, Vec::new(alloc))?;
-    Ok(item)
-}
-
-// Writes the arguments of an inherent alias, rebased onto an impl; of an associated type the trait, and its own ones.
-#[tactic(auto, using(crate::proofs::Arguments::parent_on))]
-fn write_aliases<W: Write>(alloc: Global, out: &mut W) -> Result<(), RowFault> {
-    let mut cx = RefInterner::new(alloc);
-    let texts = make_texts(alloc)?;
-    let item = add_associated(&mut cx, alloc)?;
-    write_rebased(&mut cx, &texts, item, (OF, OWN), out)?;
-    out.write_str(" | ")?;
-    write_projection(&mut cx, &texts, item, (OF, LONGER), out)
-}
-
-// Writes a trait without the type that implements it, and with another one.
-fn write_objects<W: Write>(alloc: Global, out: &mut W) -> Result<(), RowFault> {
-    let mut cx = RefInterner::new(alloc);
-    let texts = make_texts(alloc)?;
-    write_object(&mut cx, &texts, TraitId(PARTIAL_EQ), OF, out)
-}
-
-// Writes what outlives which where two regions are equal, and which constraints are trivial.
-fn write_regions<W: Write>(alloc: Global, out: &mut W) -> Result<(), RowFault> {
-    let mut cx = RefInterner::new(alloc);
-    let texts = make_texts(alloc)?;
-    write_constraints(&mut cx, &texts, (LONGER, SHORTER), out)
-}
-
-// Writes why predicates of a trait that differ in their polarity aren't related, and why references of two traits are not.
-fn write_refused<W: Write>(alloc: Global, out: &mut W) -> Result<(), RowFault> {
-    let texts = make_texts(alloc)?;
-    write_polarities(RefInterner::new(alloc), &texts, TraitId(TR), out)?;
-    out.write_str(" | ")?;
-    write_traits(
-        RefInterner::new(alloc),
-        &texts,
-        (TraitId(TR), TraitId(US)),
-        out,
-    )
+    let (polarity, constness) = (PredicatePolarity::Negative, BoundConstness::Maybe);
+    let of_impl = ImplPolarity::Negative.as_str();
+    let alias = AliasTermKind::FreeConst { def_id }.descr();
+    write!(out, "{polarity} | {constness} | {of_impl} | {alias}")?;
+    Ok(())
 }
 
 // Writes how many terms are walked of a type that is doubled 60 times, and how many nodes are added for it again.
@@ -148,23 +126,41 @@ fn write_counts<W: Write>(alloc: Global, out: &mut W) -> Result<(), RowFault> {
     Ok(())
 }
 
+// Writes what a call answers.
+fn write_call<W: Write>(alloc: Global, call: &Call, out: &mut W) -> Result<(), RowFault> {
+    match call {
+        Call::Found(number) => write_found(alloc, *number, out),
+        Call::Names => write_names(out),
+        Call::Terms(of) => write_terms(alloc, *of, out),
+        Call::Traits(differing) => write_unrelated(alloc, *differing, out),
+        Call::Counts => write_counts(alloc, out),
+        Call::Goals => write_goals(alloc, out),
+        Call::Deep => write_deep(alloc, out),
+        Call::Yielded => write_yielded(alloc, out),
+    }
+}
+
+// What the row of a name asks by calls.
+fn calls_of(name: &str) -> &'static [Call] {
+    for (row, calls) in &CALLS {
+        if *row == name {
+            return *calls;
+        }
+    }
+    &[]
+}
+
 /// The answers of the row of a name that asks no question, with ` | ` between two.
 ///
 /// # Errors
 /// `Memory` where a growth was refused.
-pub fn call(alloc: Global, name: &str) -> Result<String, RowFault> {
+pub fn called(alloc: Global, name: &str) -> Result<String, RowFault> {
     let mut text = String::new(alloc);
-    match name {
-        "r06" => write_found(alloc, &mut text)?,
-        "r32" => write_names(&mut text)?,
-        "r49" => write_aliases(alloc, &mut text)?,
-        "r50" => write_objects(alloc, &mut text)?,
-        "r51" => write_regions(alloc, &mut text)?,
-        "r52" => write_refused(alloc, &mut text)?,
-        "r62" => write_goals(alloc, &mut text)?,
-        "r64" => write_deep(alloc, &mut text)?,
-        "r65" => write_yielded(alloc, &mut text)?,
-        _ => write_counts(alloc, &mut text)?,
+    let mut any = false;
+    for call in calls_of(name) {
+        text.write_str(if any { " | " } else { "" })?;
+        write_call(alloc, call, &mut text)?;
+        any = true;
     }
     Ok(text)
 }

@@ -28,7 +28,16 @@ fn tower(cx: &mut RefInterner, doublings: usize) -> Result<Ty<RefInterner>, OutO
     Ok(ty)
 }
 
-/// How many terms a walk of `u8` yields that was doubled so often, and how many nodes are added where it is made again.
+// How many terms a walk of `u8` yields that was doubled so often, and how many nodes are added where it is made again.
+fn count_in(cx: &mut RefInterner, doublings: usize) -> Result<(usize, usize), OutOfMemory> {
+    let ty = tower(cx, doublings)?;
+    let yielded = cx.walk(&GenericArgKind::Ty(ty), &[])?.len();
+    let nodes = cx.nodes();
+    let _ = tower(cx, doublings)?;
+    Ok((yielded, cx.nodes().saturating_sub(nodes)))
+}
+
+/// The same in a new interner.
 ///
 /// # Errors
 /// `OutOfMemory` where a growth was refused.
@@ -37,9 +46,5 @@ pub fn count_terms_and_nodes(
     doublings: usize,
 ) -> Result<(usize, usize), OutOfMemory> {
     let mut cx = RefInterner::new(alloc);
-    let ty = tower(&mut cx, doublings)?;
-    let yielded = cx.walk(&GenericArgKind::Ty(ty), &[])?;
-    let nodes = cx.nodes();
-    let _ = tower(&mut cx, doublings)?;
-    Ok((yielded.len(), cx.nodes().saturating_sub(nodes)))
+    count_in(&mut cx, doublings)
 }

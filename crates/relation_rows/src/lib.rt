@@ -1,9 +1,7 @@
 //! Worked rows: each asks a few questions as text, or makes calls that no question makes, and stores the answers.
 #![tactic(auto)]
 
-pub mod beginning;
 mod calls;
 mod doubling;
-mod row_names;
 pub mod rows;
 pub mod running;

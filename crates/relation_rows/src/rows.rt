@@ -1,4 +1,8 @@
 //! The rows, and their stored answers.
+ghost use Rattle.std.specs.Prelude.{◌≡◌};
+ghost use Rattle.relation_rows.specs.Rows.{row_named};
+
+use std::alloc::{AllocError, Global};
 
 /// A row: its name, the questions that it asks, as text, and the answers that they are to have. What no question can
 /// ask, one without questions answers by calls.
@@ -9,8 +13,48 @@ pub struct Row {
     pub stored: &'static str,
 }
 
-/// The rows to r34, in the order of their numbers. A function that names all rows at once is too much for one proof.
-pub const EARLY_ROWS: [Row; 34] = [
+// The rows, in tables: one that has all is too much for the proof of the function that names it.
+fn to_18() -> &'static [Row] {
+    &TO_18
+}
+
+fn to_36() -> &'static [Row] {
+    &TO_36
+}
+
+fn to_54() -> &'static [Row] {
+    &TO_54
+}
+
+fn to_71() -> &'static [Row] {
+    &TO_71
+}
+
+/// All rows, in the order of their numbers.
+///
+/// # Errors
+/// `AllocError` where a growth was refused.
+pub fn all_rows(alloc: Global) -> Result<Vec<Row>, AllocError> {
+    let mut rows = Vec::new(alloc);
+    for table in [to_18(), to_36(), to_54(), to_71()] {
+        rows.extend_from_slice(table)?;
+    }
+    Ok(rows)
+}
+
+/// The row of that name, if there is one: the first.
+pub fn row_named(rows: &[Row], name: &str) -> Option<Row>
+    ensures { result ≡ row_named rows.now name.now }
+{
+    for row in rows {
+        if row.name == name {
+            return Some(*row);
+        }
+    }
+    None
+}
+
+static TO_18: [Row; 18] = [
     Row {
         name: "r01",
         questions: "may unify[rigid, rigid] bool, char at 0; may unify[rigid, rigid] bool, char at 1;",
@@ -108,6 +152,9 @@ pub const EARLY_ROWS: [Row; 34] = [
         questions: "closure c<T, U>; param 'a, 'b; components c<&'b u8, (&'a u8,)>;",
         stored: "'a",
     },
+];
+
+static TO_36: [Row; 18] = [
     Row {
         name: "r19",
         questions: "param const N = 0, const M = 0;
@@ -204,10 +251,6 @@ pub const EARLY_ROWS: [Row; 34] = [
             *const u8 <: *mut u8;",
         stored: "ok; regions=['a: 'c, 'b == 'd] | err Mutability",
     },
-];
-
-/// The rows from r35 on.
-pub const LATE_ROWS: [Row; 37] = [
     Row {
         name: "r35",
         questions: "struct K<-T>; param 'a, 'b;
@@ -219,6 +262,9 @@ pub const LATE_ROWS: [Row; 37] = [
         questions: "budget 1; (?0, ?i0) == (u8, u16);",
         stored: "ok; bound=[?0=u8, ?i0=u16]; left=0",
     },
+];
+
+static TO_54: [Row; 18] = [
     Row {
         name: "r37",
         questions: "[u8; ?c0] == [?0; 2];",
@@ -326,6 +372,9 @@ pub const LATE_ROWS: [Row; 37] = [
             components for<'a> fn(<T as Tr<'a>>::A);",
         stored: "'a, T, 'b | 'b | none | escaping[T]",
     },
+];
+
+static TO_71: [Row; 17] = [
     Row {
         name: "r55",
         questions: "param T, 'a, 'b; assumptions (&'a T, u8): 'b;",

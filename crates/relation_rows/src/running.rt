@@ -1,13 +1,14 @@
 //! How rows are asked, and the program's runs.
 ghost use Rattle.std.specs.Prelude.{◌≡◌, ◌<◌, ◌≤◌, IfSome, length, slice_get, string_bytes};
-ghost use Rattle.relation_rows.specs.Named.{IsHelp, IsRow};
+ghost use Rattle.relation_rows.specs.Rows.{IsRow};
+ghost use Rattle.text_asking.specs.Programs.{IsHelp};
 
-use crate::calls::call;
-use crate::row_names::{is_help, is_row};
-use crate::rows::{EARLY_ROWS, LATE_ROWS, Row};
+use crate::calls::called;
+use crate::rows::{Row, row_named};
 use std::alloc::Global;
 use std::io;
 use text_asking::ask_all;
+use text_asking::programs::{WRONG, is_help, status_of};
 use text_reading::naming::{NameError, look_up};
 use text_reading::reading::{ReadError, read};
 use text_reading::telling::{Lines, tell_unnamed, tell_unread};
@@ -44,7 +45,7 @@ pub fn asked(alloc: Global, questions: &str) -> Result<String, RowFault> {
 /// As `asked` has them, and `Memory` where a call was refused a growth.
 pub fn answers(alloc: Global, row: &Row) -> Result<String, RowFault> {
     if row.questions.is_empty() {
-        return call(alloc, row.name);
+        return called(alloc, row.name);
     }
     asked(alloc, row.questions)
 }
@@ -96,103 +97,41 @@ pub fn print<O: io::Write, E: io::Write>(
     }
 }
 
-// Prints the rows of a name, or all of these, and says whether all answers are the stored ones.
-fn print_those<O: io::Write, E: io::Write>(
+// Prints rows, and says whether all answers are the stored ones.
+fn print_each<O: io::Write, E: io::Write>(
     alloc: Global,
     rows: &[Row],
-    name: Option<&str>,
     out: &mut O,
     err: &mut E,
 ) -> io::Result<bool> {
     let mut stored = true;
     for row in rows {
-        let asked = match name {
-            None => true,
-            Some(name) => row.name == name,
-        };
-        if asked && !print(alloc, row, out, err)? {
+        if !print(alloc, row, out, err)? {
             stored = false;
         }
     }
     Ok(stored)
 }
 
-// Of the early rows.
-fn print_early<O: io::Write, E: io::Write>(
-    alloc: Global,
-    name: Option<&str>,
-    out: &mut O,
-    err: &mut E,
-) -> io::Result<bool> {
-    print_those(alloc, &EARLY_ROWS, name, out, err)
-}
-
-// Of the late rows.
-fn print_late<O: io::Write, E: io::Write>(
-    alloc: Global,
-    name: Option<&str>,
-    out: &mut O,
-    err: &mut E,
-) -> io::Result<bool> {
-    print_those(alloc, &LATE_ROWS, name, out, err)
-}
-
-// Of all rows.
-fn print_all<O: io::Write, E: io::Write>(
-    alloc: Global,
-    name: Option<&str>,
-    out: &mut O,
-    err: &mut E,
-) -> io::Result<bool> {
-    let early = print_early(alloc, name, out, err)?;
-    let late = print_late(alloc, name, out, err)?;
-    Ok(early && late)
-}
-
-// Prints the row of a name, or all. The status is 1 if an answer is not the stored one, a row's text is wrong, or a
-// write failed: then `err` is told why, and no more is written.
-fn print_rows<O: io::Write, E: io::Write>(
-    alloc: Global,
-    name: Option<&str>,
-    out: &mut O,
-    err: &mut E,
-) -> u8
+// The status of rows that were printed: 1 if an answer is not the stored one, a row's text is wrong, or a write failed.
+// Of that `err` is told why.
+fn status_printed<E: io::Write>(printed: io::Result<bool>, err: &mut E) -> u8
     ensures { result ≤ 1 }
 {
-    match print_all(alloc, name, out, err) {
+    match printed {
         Ok(true) => 0,
         Ok(false) => 1,
-        Err(error) => {
-            let _ = writeln!(err, "standard output: {error}");
-            1
-        }
+        Err(error) => status_of(Err(error), err),
     }
 }
 
-// Writes the names of rows, each behind a blank.
-fn write_names_of<W: io::Write>(rows: &[Row], out: &mut W) -> io::Result<()> {
+// Writes which rows there are, and ends the line.
+fn write_names<W: io::Write>(rows: &[Row], out: &mut W) -> io::Result<()> {
+    write!(out, "rows:")?;
     for row in rows {
         let name = row.name;
         write!(out, " {name}")?;
     }
-    Ok(())
-}
-
-// Of the early rows.
-fn write_early_names<W: io::Write>(out: &mut W) -> io::Result<()> {
-    write_names_of(&EARLY_ROWS, out)
-}
-
-// Of the late rows.
-fn write_late_names<W: io::Write>(out: &mut W) -> io::Result<()> {
-    write_names_of(&LATE_ROWS, out)
-}
-
-// Writes which rows there are, and ends the line.
-fn write_names<W: io::Write>(out: &mut W) -> io::Result<()> {
-    write!(out, "rows:")?;
-    write_early_names(out)?;
-    write_late_names(out)?;
     writeln!(out)
 }
 
@@ -202,39 +141,52 @@ fn write_usage<W: io::Write>(out: &mut W) -> io::Result<()> {
 }
 
 // Writes how the program is used, and which rows there are.
-fn write_help<W: io::Write>(out: &mut W) -> io::Result<()> {
+fn write_help<W: io::Write>(rows: &[Row], out: &mut W) -> io::Result<()> {
     write_usage(out)?;
     writeln!(
         out,
         "Prints the answers of the row of that name, or of all rows."
     )?;
-    write_names(out)
+    write_names(rows, out)
 }
 
-// Prints how the program is used. The status is 1 if a write failed: then `err` is told why.
-fn print_help<O: io::Write, E: io::Write>(out: &mut O, err: &mut E) -> u8
-    ensures { result ≤ 1 }
+// Tells that no row has that name, and which names they have.
+fn write_unknown<W: io::Write>(rows: &[Row], name: &str, out: &mut W) -> io::Result<()> {
+    writeln!(out, "unknown row: {name}")?;
+    write_names(rows, out)
+}
+
+// Runs the row of a name, or prints how the program is used and which rows there are.
+#[tactic(auto, using(crate::proofs::Finding::found_is_row, crate::proofs::Finding::none_is_row))]
+fn run_word<O: io::Write, E: io::Write>(
+    alloc: Global,
+    rows: &[Row],
+    word: &str,
+    out: &mut O,
+    err: &mut E,
+) -> u8
+    ensures row { IsRow rows.now word.now → result ≤ 1 }
+    ensures help { IsHelp word.now → result ≤ 1 }
+    ensures no_row { (IsRow rows.now word.now → ⊥) → (IsHelp word.now → ⊥) → result ≡ 2 }
 {
-    match write_help(out) {
-        Ok(()) => 0,
-        Err(error) => {
-            let _ = writeln!(err, "standard output: {error}");
-            1
+    if is_help(word) {
+        return status_of(write_help(rows, out), err);
+    }
+    match row_named(rows, word) {
+        Some(row) => status_printed(print(alloc, &row, out, err), err),
+        None => {
+            let _ = write_unknown(rows, word, err);
+            WRONG
         }
     }
 }
 
-// Tells that no row has that name, and which names they have.
-fn write_unknown<W: io::Write>(name: &str, out: &mut W) -> io::Result<()> {
-    writeln!(out, "unknown row: {name}")?;
-    write_names(out)
-}
-
-/// Runs one row or all, or prints how the program is used and which rows there are, and answers the status: 2 where the
-/// words name no row, 1 where an answer is not the stored one, a row's text is wrong, or a write failed. Where a row is
-/// not known, `err` is told which there are.
+/// Runs one of the rows or all, or prints how the program is used and which rows there are, and answers the status: 2
+/// where the words name no row, 1 where an answer is not the stored one, a row's text is wrong, or a write failed.
+/// Where a row is not known, `err` is told which there are.
 pub fn run<O: io::Write, E: io::Write>(
     alloc: Global,
+    rows: &[Row],
     words: &[String],
     out: &mut O,
     err: &mut E,
@@ -242,25 +194,18 @@ pub fn run<O: io::Write, E: io::Write>(
     ensures usage { 1 < length words.now → result ≡ 2 }
     ensures all { length words.now ≡ 0 → result ≤ 1 }
     ensures row { length words.now ≤ 1 →
-        IfSome (slice_get words.now 0) (λ w. IsRow (string_bytes w) → result ≤ 1) }
+        IfSome (slice_get words.now 0) (λ w. IsRow rows.now (string_bytes w) → result ≤ 1) }
     ensures help { length words.now ≤ 1 →
         IfSome (slice_get words.now 0) (λ w. IsHelp (string_bytes w) → result ≤ 1) }
     ensures no_row { IfSome (slice_get words.now 0)
-        (λ w. (IsRow (string_bytes w) → ⊥) → (IsHelp (string_bytes w) → ⊥) → result ≡ 2) }
+        (λ w. (IsRow rows.now (string_bytes w) → ⊥) → (IsHelp (string_bytes w) → ⊥) → result ≡ 2) }
 {
     if words.len() > 1 {
         let _ = write_usage(err);
-        return 2;
+        return WRONG;
     }
-    let Some(name) = words.first() else {
-        return print_rows(alloc, None, out, err);
-    };
-    if is_help(name.as_str()) {
-        return print_help(out, err);
+    match words.first() {
+        Some(word) => run_word(alloc, rows, word.as_str(), out, err),
+        None => status_printed(print_each(alloc, rows, out, err), err),
     }
-    if !is_row(name.as_str()) {
-        let _ = write_unknown(name.as_str(), err);
-        return 2;
-    }
-    print_rows(alloc, Some(name.as_str()), out, err)
 }

@@ -1,4 +1,5 @@
 pub mod AskingLemmas
+pub mod RelatedLemmas
 pub mod Counting
 pub mod Recorded
 pub mod MeetLemmas
@@ -9,3 +10,5 @@ pub mod AssumeLemmas
 pub mod Universes
 pub mod EnvironmentLemmas
 pub mod CoherenceLemmas
+pub mod ProofLemmas
+pub mod FitLemmas

@@ -1,10 +1,10 @@
--- What is ready to be asked about, and a context in which it may be.
-use Rattle.std.specs.Prelude.{◌≡◌, ◌≢◌, ℕ, ◌<◌, ◌≤◌, List, ◌++◌, replicate, Option, Some, IsTrue, length, slice_get, Result}
+-- What is ready to be asked about, contexts, and what is answered.
+use Rattle.std.specs.Prelude.{◌≡◌, ℕ, ◌<◌, ◌≤◌, List, ◌++◌, replicate, Option, Some, None, IsTrue, length, Result}
 use Rattle.std.specs.Prelude.{Ok, Err, IfSome}
 use Rattle.std.specs.Global.{Vec}
 use Rattle.std.specs.List.{All}
 use Rattle.term_enums.specs.declared.Variance.{Variance}
-use Rattle.term_enums.specs.declared.Variance.TheVariants.{Bivariant, Invariant}
+use Rattle.term_enums.specs.declared.Variance.TheVariants.{Invariant}
 use Rattle.relation_terms.specs.declared.terms.generic_arg.GenericArgKind.{GenericArgKind}
 use Rattle.relation_terms.specs.declared.terms.goal.Goal.{Goal}
 use Rattle.relation_terms.specs.declared.terms.keys.LocalDefIdsKey.{LocalDefIdsKey}
@@ -19,12 +19,10 @@ use Rattle.variable_tables.specs.Variables.{value_at, universes_of}
 use Rattle.relation_folds.specs.declared.error.RelateFault.{RelateFault}
 use Rattle.relation_folds.specs.Faults.{KnowsFault}
 use Rattle.relation_coherence.specs.Answers.{KnowsOverlap}
-use Rattle.relation_semantics.specs.Bound.{IsWellBound}
 use Rattle.term_enums.specs.declared.StructurallyRelateAliases.{StructurallyRelateAliases}
 use Rattle.term_enums.specs.declared.StructurallyRelateAliases.TheVariants.{No, Yes}
 use Rattle.relation_semantics.specs.declared.infer_ctxt.TypingMode.{TypingMode}
 use Rattle.relation_semantics.specs.declared.infer_ctxt.TypingMode.TheVariants as typing
-use Rattle.relation_semantics.specs.Relation.{StaysWithin}
 use Rattle.relation_semantics.specs.Goals.{KnowsGoal}
 use Rattle.text_reading.specs.declared.reading.tree.Relation.{Relation}
 use Rattle.text_reading.specs.declared.reading.tree.Relation.TheVariants as relation
@@ -35,42 +33,21 @@ use Rattle.text_reading.specs.declared.naming.program.Variables.{Variables}
 use Rattle.text_reading.specs.declared.naming.program.VariableKind.{VariableKind}
 use Rattle.text_reading.specs.declared.naming.program.VariableKind.TheVariants.{Ty, Int, Float, Const, Region}
 use Rattle.text_reading.specs.declared.naming.program.VariableId.{VariableId}
-use Rattle.text_needs.specs.declared.needs.Needs.{Needs}
 use Rattle.text_asking.specs.declared.question.Ready.{Ready}
 use Rattle.text_asking.specs.declared.question.Answer.{Answer}
 use Rattle.text_asking.specs.declared.question.Answer.TheVariants.{Related, Met, Walked, Components, Folded, Is}
 use Rattle.text_asking.specs.declared.question.Answer.TheVariants.{Assumed, Key as key, Pulls, Binding, Overlap, Methods}
-use Rattle.text_asking.specs.declared.question.Answer.TheVariants.{Solved}
+use Rattle.text_asking.specs.declared.question.Answer.TheVariants.{Solved, Proved}
 use Rattle.outlives_assumptions.specs.Assumptions.{IsKnown}
 use Rattle.text_asking.specs.Meets.{AllKnown}
-use Rattle.text_needs.specs.Needs.{Allows, Reaches, largest, need_at}
+use Rattle.text_terms.specs.Built.{AreKnown}
 use Rattle.text_elaboration.specs.Pulls.{KnowsPulled}
 use Rattle.text_asking.specs.Outlives.{KnowsComponents}
 use Rattle.text_users.specs.Solved.{KnowsSolved}
 
--- What relating takes: a term in which each binder binds by its list, and nothing that one outside it binds stands.
-pub record IsRelatable (t : Tree) : Type 0 where
-  pub by_lists : IsWellBound t
-  pub stays : StaysWithin 0 t
-
--- That is said of a term.
-pub record IsAsked (n : Needs) : Type 0 where
-  pub closed : IsTrue n.closed
-  pub lists : IsTrue n.by_lists
-
--- A known term, for which what is needed is enough; which relating takes where that is said of it.
-abbrev pub IsReady : Needs → Tree → Type 0
-IsReady n t = IsTrue (known t) × (Allows n t × (IsAsked n → IsRelatable t))
-
--- Each key that is there means such a term.
-abbrev pub AreReady : {Key Id Name : Type 0} → Meaning Key Id Name → List (Option (GenericArgKind Key)) → List Needs →
-    Type 0
-AreReady {Key = Key} m keys needs = (k : ℕ) (key : GenericArgKind Key) → slice_get keys k ≡ Some (Some key) →
-    IsReady (need_at needs k) (arg_tree m key)
-
--- The same of what questions are put over.
+-- Each key that questions are put over is known.
 abbrev pub AllReady : {I Key Id Name Span : Type 0} → Meaning Key Id Name → Ready I Key Id Name Span → Type 0
-AllReady m terms = AreReady m terms.built.now terms.needs.now
+AllReady m terms = AreKnown m terms.built.now
 
 -- The typing mode of that name, in which no opaque types are defined.
 abbrev pub typing_mode : {Key : Type 0} → Mode → LocalDefIdsKey Key → TypingMode Key
@@ -139,20 +116,10 @@ pub record HasStated {Key : Type 0} (x : InferCtxtInner Key) (v : Variables) : T
 abbrev pub HasNamed : {Key : Type 0} → InferCtxtInner Key → VariableId → Type 0
 HasNamed x v = v.number < variables_in x (var_kind v.kind)
 
--- A context has what is needed: the variables, and a universe that names the placeholders.
-pub record Has {Key : Type 0} (x : InferCtxtInner Key) (n : Needs) : Type 0 where
-  pub variables : (k : VarKind) (i : ℕ) → Reaches (largest n k) i → i < variables_in x k
-  pub universe : n.universe ≤ (x.universe).0
-
--- Two types may be asked about at a variance, in a context of that universe.
-pub record IsAskable (u : ℕ) (v : Variance) (a b : Needs) : Type 0 where
-  pub left_closed : IsTrue a.closed
-  pub right_closed : IsTrue b.closed
-  pub left_lists : IsTrue a.by_lists
-  pub right_lists : IsTrue b.by_lists
-  pub left : a.universe ≤ u
-  pub right : b.universe ≤ u
-  pub decides : v ≢ Bivariant
+-- A number that is there reaches another.
+abbrev pub Reaches : Option ℕ → ℕ → Type 0
+Reaches None i = ⊥
+Reaches (Some n) i = i ≤ n
 
 -- What a relation answered is known: its goals, or why it stopped.
 abbrev pub KnowsRelated : {Key Id Name : Type 0} → Meaning Key Id Name →
@@ -175,6 +142,7 @@ KnowsAnswer m Knows (Binding b) = IfSome b (λ a. IsTrue (known (arg_tree m a)))
 KnowsAnswer m Knows (Solved s) = KnowsSolved m s
 KnowsAnswer m Knows (Overlap of told) = KnowsOverlap m told
 KnowsAnswer m Knows (Methods names) = Unit {0}
+KnowsAnswer m Knows (Proved told) = Unit {0}
 
 -- What variables are bound to is known.
 abbrev pub AreBoundKnown : {K : Type 0} → (K → Tree) → List (Variable K) → Type 0

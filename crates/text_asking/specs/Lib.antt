@@ -7,5 +7,7 @@ pub mod Skips
 pub mod Roots
 pub mod Counts
 pub mod Impls
-pub use Rattle.text_needs.specs.Binding
-pub use Rattle.text_needs.specs.Needs
+pub mod Environments
+pub mod Programs
+pub mod Proofs
+pub mod Fits

@@ -6,13 +6,13 @@ ghost use Rattle.relation_coherence.specs.Answers.{KnowsOverlap};
 ghost use Rattle.relation_coherence.specs.Headers.{header_tree};
 ghost use Rattle.variable_tables.specs.Tables.{IsLawful};
 ghost use Rattle.text_users.specs.Asked.{AreForKnown};
-ghost use Rattle.text_asking.specs.Asking.{AllReady};
+ghost use Rattle.text_asking.specs.Asking.{AllReady, KnowsAnswer, KnowsRelated};
 ghost use Rattle.text_asking.specs.Impls.{KnowsImpls};
 
 use crate::elaborating::bound_of;
 use crate::environment::environment_of;
 use crate::printing::{write_constraints, write_error, write_goals, write_tainted};
-use crate::question::{Ready, Unasked, type_of};
+use crate::question::{Answer, Outcome, Ready, Unasked, type_of};
 use relation_coherence::overlap::{HeaderOf, Overlap, WhyApart};
 use relation_folds::error::RelateFault;
 use relation_reference::context::RefCtxt;
@@ -21,7 +21,7 @@ use relation_terms::terms::{ArgsKey, Binder, Interner, ParamEnvKey, TraitId};
 use std::fmt::{self, Write};
 use text_clauses::printing::write_trait_ref;
 use text_reading::naming::{Method, Parts};
-use text_terms::building::variables_at;
+use text_terms::building::{ty_at, variables_at};
 use text_terms::printing::{TextsOf, name_text};
 use text_users::methods::{GenericMethod, find_methods};
 use text_users::overlapping::{OverlapResult, ask_overlap};
@@ -87,16 +87,17 @@ pub(super) fn ask_impls_overlap<I: Interner>(
     assumed: Parts,
     left: usize,
     right: usize,
-) -> Result<(TraitId<I::Id>, OverlapResult<I>), Unasked>
+) -> Outcome<I>
     requires lawful { IsLawful (I.meaning ctx.old.interner) ctx.old.inner }
     requires ready { AllReady (I.meaning ctx.old.interner) terms.now }
     ensures lawful { IsLawful (I.meaning ctx.new.interner) ctx.new.inner }
     ensures grown { Extends (I.meaning ctx.old.interner) (I.meaning ctx.new.interner) }
-    ensures known { IfOk result (λ p. KnowsOverlap (I.meaning ctx.new.interner) p.1) }
+    ensures known { let m = I.meaning ctx.new.interner in
+        IfOk result (KnowsAnswer m (KnowsRelated m)) }
 {
     let impls = impls_of(&mut ctx.interner, terms, assumed, left, right)?;
     match ask_overlap(ctx, impls.param_env, impls.left, impls.right) {
-        Ok(result) => Ok((impls.of, result)),
+        Ok(told) => Ok(Answer::Overlap(impls.of, told)),
         Err(why) => Err(Unasked::Impls(why)),
     }
 }
@@ -147,13 +148,13 @@ fn method_of<I: Interner>(
     ensures sure { IfSome result (λ e. IsTrue (known ((I.meaning cx.new).ty e.of.value))) }
 {
     let name = terms.names.get(method.name)?;
-    let typed = type_of(terms, method.ty)?;
+    let ty = ty_at(terms.built, method.ty)?;
     let variables = variables_at(&*cx, terms.parts, terms.built, method.variables)?;
     let Ok(bound_vars) = cx.mk_bound_vars(&variables) else {
         return None;
     };
     let of = Binder {
-        value: typed.0,
+        value: ty,
         bound_vars,
     };
     Some(GenericMethod { of, name: *name })
@@ -186,20 +187,20 @@ pub(super) fn ask_methods<I: Interner>(
     terms: &Ready<I>,
     range: Parts,
     of: usize,
-) -> Result<Vec<I::Name>, Unasked>
+) -> Outcome<I>
     requires lawful { IsLawful (I.meaning ctx.old.interner) ctx.old.inner }
     requires ready { AllReady (I.meaning ctx.old.interner) terms.now }
     ensures lawful { IsLawful (I.meaning ctx.new.interner) ctx.new.inner }
     ensures grown { Extends (I.meaning ctx.old.interner) (I.meaning ctx.new.interner) }
+    ensures known { let m = I.meaning ctx.new.interner in
+        IfOk result (KnowsAnswer m (KnowsRelated m)) }
 {
-    let Some((ty, _)) = type_of(terms, of) else {
-        return Err(Unasked::Memory);
-    };
+    let ty = type_of(terms, of)?;
     let Some(methods) = methods_of(&mut ctx.interner, terms, range) else {
         return Err(Unasked::Memory);
     };
     match find_methods(&ctx.interner, &methods, &ty) {
-        Ok(names) => Ok(names),
+        Ok(names) => Ok(Answer::Methods(names)),
         Err(_) => Err(Unasked::Memory),
     }
 }

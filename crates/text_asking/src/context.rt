@@ -1,20 +1,22 @@
 //! A question's context, and relating in it.
-ghost use Rattle.std.specs.Prelude.{◌≡◌, ℕ, suc, ◌<◌, ◌≤◌, max, IfNone, IfOk, OnOk};
+ghost use Rattle.std.specs.Prelude.{◌≡◌, ◌≢◌, ℕ, suc, ◌<◌, ◌≤◌, max, IfOk, IsOk, OnOk};
+ghost use Rattle.std.specs.List.{All};
+ghost use Rattle.term_enums.specs.declared.Variance.TheVariants.{Bivariant};
 ghost use Rattle.relation_terms.specs.Heads.{VarKind};
 ghost use Rattle.relation_terms.specs.Meaning.{Extends};
 ghost use Rattle.context_relation.specs.Relating.{TaintsForError};
 ghost use Rattle.type_relations.specs.Contract.{CanRelate, RelatesBoth, LosesNone, FaultIsTrue, AsksOnly, LeavesRest};
 ghost use Rattle.variable_tables.specs.Tables.{IsLawful};
-ghost use Rattle.text_needs.specs.Needs.{Reaches};
-ghost use Rattle.std.specs.List.{All};
-ghost use Rattle.text_asking.specs.Asking.{Has, HasNamed, HasStated, IsAskable, IsSetUp, MakesIn};
+ghost use Rattle.text_asking.specs.Asking.{HasNamed, HasStated, IsSetUp, MakesIn, Reaches};
 ghost use Rattle.text_asking.specs.Asking.{aliases_of, typing_mode, var_kind, variables_in, variance_of};
 
+use may_relate::{Named, Unfit};
 use relation_reference::context::RefCtxt;
 use relation_semantics::infer_ctxt::{InferCtxtLike, TypingMode};
-use relation_terms::terms::{Interner, LocalDefIds, OutOfMemory, ParamEnv, Span, Variance};
+use relation_terms::terms::{
+    Interner, LocalDefIds, OutOfMemory, ParamEnv, Span, UniverseIndex, Variance,
+};
 use std::fmt::{self, Write};
-use text_needs::needs::Needs;
 use text_reading::naming::{Mode, Setup, VariableId, VariableKind, Variables};
 use text_reading::reading::Relation;
 use type_relations::relate::Relate;
@@ -23,12 +25,8 @@ use type_relations::relate::solver_relating::{RelateExt, RelateGoals};
 /// Why a question is not asked.
 #[derive(Clone, Copy)]
 pub enum NotAsked {
-    /// A binder outside the terms binds what stands in them.
-    Escapes,
-    /// A binder in the terms does not bind by its list.
-    Lists,
-    /// The context's universe, which is this one, does not name a placeholder.
-    Universe(usize),
+    /// One of the terms may not be related in the context.
+    Unfit(Unfit),
     /// Nothing is asked at this variance.
     Variance,
     /// Lists of arguments are related that have as many.
@@ -37,6 +35,12 @@ pub enum NotAsked {
     Depth,
     /// It is stated of regions what can't be known of them.
     Facts,
+}
+
+impl From<Unfit> for NotAsked {
+    fn from(unfit: Unfit) -> NotAsked {
+        NotAsked::Unfit(unfit)
+    }
 }
 
 // The typing mode of that name, in which no opaque types are defined.
@@ -73,6 +77,15 @@ pub(super) fn renewed<I: Interner>(
     let mode = typing_mode::<I>(setup.mode, no_ids);
     ctx.renewed(mode, setup.next_solver, budget)
 }
+
+// All kinds of variables.
+pub(super) const KINDS: [VariableKind; 5] = [
+    VariableKind::Ty,
+    VariableKind::Int,
+    VariableKind::Float,
+    VariableKind::Const,
+    VariableKind::Region,
+];
 
 // How many variables of a kind the context has.
 fn variables_count<I: Interner>(ctx: &RefCtxt<I>, kind: VariableKind) -> usize
@@ -120,7 +133,7 @@ fn make_variable<I: Interner>(ctx: &mut RefCtxt<I>, kind: VariableKind) -> Resul
 }
 
 // Makes variables of a kind until the context has so many.
-fn make_variables<I: Interner>(
+pub(super) fn make_variables<I: Interner>(
     ctx: &mut RefCtxt<I>,
     kind: VariableKind,
     count: usize,
@@ -167,19 +180,19 @@ fn count_to(largest: Option<usize>) -> Result<usize, OutOfMemory>
     }
 }
 
-// Makes universes until the context is in one, or in a later one.
-fn enter_universe<I: Interner>(ctx: &mut RefCtxt<I>, universe: usize) -> Result<(), OutOfMemory>
+// Enters a universe, unless the context is in it or in a later one.
+pub(super) fn enter_universe<I: Interner>(ctx: &mut RefCtxt<I>, universe: usize)
     requires { IsLawful (I.meaning ctx.old.interner) ctx.old.inner }
     ensures interner { ctx.new.interner ≡ ctx.old.interner }
     ensures lawful { IsLawful (I.meaning ctx.new.interner) ctx.new.inner }
     ensures rest { ctx.new.inner ≡ record ctx.old.inner { universe = ctx.new.inner.universe } }
     ensures later { ctx.old.inner.universe.0 ≤ ctx.new.inner.universe.0 }
-    ensures enters { OnOk result (ctx.new.inner.universe.0 ≡ max ctx.old.inner.universe.0 universe) }
+    ensures enters { ctx.new.inner.universe.0 ≡ max ctx.old.inner.universe.0 universe }
 {
-    for _ in ctx.inner.universe.0..universe {
-        let _ = ctx.create_next_universe()?;
+    if ctx.inner.universe.0 < universe {
+        let inner = &mut ctx.inner;
+        inner.universe = UniverseIndex(universe);
     }
-    Ok(())
 }
 
 // Makes the variables of a statement that are not there yet, in its universe, or the context's if that is later.
@@ -193,7 +206,7 @@ fn have_stated<I: Interner>(ctx: &mut RefCtxt<I>, variables: Variables) -> Resul
     ensures makes { let u = max ctx.old.inner.universe.0 variables.universe in
         OnOk result (MakesIn u ctx.old.inner ctx.new.inner) }
 {
-    enter_universe(ctx, variables.universe)?;
+    enter_universe(ctx, variables.universe);
     make_variables(ctx, VariableKind::Ty, variables.types)?;
     make_variables(ctx, VariableKind::Const, variables.consts)?;
     make_variables(ctx, VariableKind::Region, variables.regions)
@@ -215,22 +228,15 @@ pub(super) fn have_all_stated<I: Interner>(
     Ok(())
 }
 
-// Makes variables until the context has what is needed.
-pub(super) fn have_variables<I: Interner>(
-    ctx: &mut RefCtxt<I>,
-    needs: Needs,
-) -> Result<(), OutOfMemory>
-    requires lawful { IsLawful (I.meaning ctx.old.interner) ctx.old.inner }
-    requires universe { needs.universe ≤ ctx.old.inner.universe.0 }
-    ensures lawful { IsLawful (I.meaning ctx.new.interner) ctx.new.inner }
-    ensures grown { Extends (I.meaning ctx.old.interner) (I.meaning ctx.new.interner) }
-    ensures has { OnOk result (Has ctx.new.inner needs) }
-{
-    reach(ctx, VariableKind::Ty, needs.types)?;
-    reach(ctx, VariableKind::Int, needs.ints)?;
-    reach(ctx, VariableKind::Float, needs.floats)?;
-    reach(ctx, VariableKind::Const, needs.consts)?;
-    reach(ctx, VariableKind::Region, needs.regions)
+// The largest variable of a kind that is named, if one is.
+pub(super) fn largest(named: Named, kind: VariableKind) -> Option<usize> {
+    match kind {
+        VariableKind::Ty => Some(named.ty_var?.0),
+        VariableKind::Int => Some(named.int_var?.0),
+        VariableKind::Float => Some(named.float_var?.0),
+        VariableKind::Const => Some(named.const_var?.0),
+        VariableKind::Region => Some(named.region_var?.0),
+    }
 }
 
 // Makes variables until the context has one that is named.
@@ -247,28 +253,21 @@ pub(super) fn have_variable<I: Interner>(
     reach(ctx, variable.kind, Some(variable.number))
 }
 
-// Why two types are not related so in a context, if they are not.
-pub(super) fn refusal<I: Interner>(
-    ctx: &RefCtxt<I>,
+// Nothing, where two terms may be related so, by what was found of each; else why not.
+pub(super) fn may_ask(
+    lhs: Result<(), Unfit>,
     relation: Relation,
-    lhs: Needs,
-    rhs: Needs,
-) -> Option<NotAsked>
-    ensures { IfNone result (IsAskable ctx.now.inner.universe.0 (variance_of relation) lhs rhs) }
+    rhs: Result<(), Unfit>,
+) -> Result<(), NotAsked>
+    ensures lhs { OnOk result (IsOk lhs) }
+    ensures rhs { OnOk result (IsOk rhs) }
+    ensures decides { OnOk result (variance_of relation ≢ Bivariant) }
 {
-    if !lhs.closed || !rhs.closed {
-        return Some(NotAsked::Escapes);
-    }
-    if !lhs.by_lists || !rhs.by_lists {
-        return Some(NotAsked::Lists);
-    }
-    let universe = ctx.inner.universe.0;
-    if universe < lhs.universe || universe < rhs.universe {
-        return Some(NotAsked::Universe(universe));
-    }
+    lhs?;
+    rhs?;
     match relation {
-        Relation::At(Variance::Bivariant) => Some(NotAsked::Variance),
-        Relation::At(_) | Relation::Structurally => None,
+        Relation::At(Variance::Bivariant) => Err(NotAsked::Variance),
+        Relation::At(_) | Relation::Structurally => Ok(()),
     }
 }
 
@@ -302,20 +301,29 @@ pub(super) fn relate<C: InferCtxtLike, T: Relate<C::Interner>>(
     }
 }
 
-/// Writes why a question is not asked.
-pub(super) fn write_not_asked<W: Write>(why: NotAsked, out: &mut W) -> fmt::Result {
+// Writes why a term may not be related in a context of that universe. It has the variables that the term names.
+fn write_unfit<W: Write>(unfit: Unfit, universe: usize, out: &mut W) -> fmt::Result {
+    match unfit {
+        Unfit::Escapes(_) => {
+            out.write_str("a binder outside these types binds what stands in them")
+        }
+        Unfit::LaterUniverse(_) => write!(
+            out,
+            "the context's universe, {universe}, does not name the placeholder"
+        ),
+        _ => out.write_str("a binder in these types does not bind by its list"),
+    }
+}
+
+/// Writes why a question is not asked of a context of that universe.
+pub(super) fn write_not_asked<W: Write>(
+    why: NotAsked,
+    universe: usize,
+    out: &mut W,
+) -> fmt::Result {
     out.write_str("not asked: ")?;
     match why {
-        NotAsked::Escapes => out.write_str(
-            "a binder outside these types binds what stands in them",
-        ),
-        NotAsked::Lists => out.write_str("a binder in these types does not bind by its list"),
-        NotAsked::Universe(universe) => {
-            write!(
-                out,
-                "the context's universe, {universe}, does not name the placeholder"
-            )
-        }
+        NotAsked::Unfit(unfit) => write_unfit(unfit, universe, out),
         NotAsked::Variance => out.write_str("nothing is related at this variance"),
         NotAsked::Lengths => out.write_str("one list has more arguments than the other"),
         NotAsked::Depth => out.write_str("what it comes to may be too deep for the stack"),

@@ -1,5 +1,5 @@
 //! What a relation leaves is counted.
-ghost use Rattle.std.specs.Prelude.{◌≡◌, IfOk, OnOk, length};
+ghost use Rattle.std.specs.Prelude.{◌≡◌, IfOk, OnOk};
 ghost use Rattle.std.specs.Fmt.{WritesInCalls};
 ghost use Rattle.std.specs.Set.{distinct_count};
 ghost use Rattle.text_asking.specs.Counts.{counts_text};

@@ -2,13 +2,14 @@
 ghost use Rattle.std.specs.Prelude.{IsTrue, IfOk, IfSome};
 ghost use Rattle.std.specs.List.{All};
 ghost use Rattle.relation_terms.specs.Trees.{known};
-ghost use Rattle.relation_terms.specs.Meaning.{Meaning, Extends};
+ghost use Rattle.relation_terms.specs.Meaning.{Extends};
 ghost use Rattle.relation_terms.specs.Owned.{bound_tree};
+ghost use Rattle.text_clauses.specs.Made.{MakesEach};
 ghost use Rattle.text_elaboration.specs.Pulls.{KnowsPulled};
 ghost use Rattle.variable_tables.specs.Tables.{IsLawful};
-ghost use Rattle.text_asking.specs.Asking.{AllReady};
+ghost use Rattle.text_asking.specs.Asking.{AllReady, KnowsAnswer, KnowsRelated};
 
-use crate::question::{Ready, Unasked};
+use crate::question::{Answer, Outcome, Ready, Unasked};
 use relation_reference::context::RefCtxt;
 use relation_terms::predicate::TraitRef;
 use relation_terms::terms::{Binder, Clause, Interner};
@@ -40,6 +41,8 @@ pub(super) fn clauses_of<I: Interner>(
     requires { AllReady (I.meaning cx.old) terms.now }
     ensures grown { Extends (I.meaning cx.old) (I.meaning cx.new) }
     ensures sure { IfSome result (λ ks. All (λ k. IsTrue (known ((I.meaning cx.new).clause k))) ks.items) }
+    ensures made { let t = terms.now in
+        MakesEach I.meaning cx.old cx.new t.ids.now t.names.now t.parts.now t.built.now t.clauses.now range result }
 {
     build_clauses(
         cx,
@@ -59,18 +62,19 @@ pub(super) fn ask_elaborated<I: Interner>(
     terms: &Ready<I>,
     range: Parts,
     manner: &Manner,
-) -> Result<Vec<PulledOf<I>>, Unasked>
+) -> Outcome<I>
     requires lawful { IsLawful (I.meaning ctx.old.interner) ctx.old.inner }
     requires ready { AllReady (I.meaning ctx.old.interner) terms.now }
     ensures lawful { IsLawful (I.meaning ctx.new.interner) ctx.new.inner }
     ensures grown { Extends (I.meaning ctx.old.interner) (I.meaning ctx.new.interner) }
-    ensures sure { IfOk result (λ all. All (KnowsPulled (I.meaning ctx.new.interner)) all.items) }
+    ensures known { let m = I.meaning ctx.new.interner in
+        IfOk result (KnowsAnswer m (KnowsRelated m)) }
 {
     let Some(clauses) = clauses_of(&mut ctx.interner, terms, range) else {
         return Err(Unasked::Memory);
     };
     match elaborated(&mut ctx.interner, clauses, manner) {
-        Ok(all) => Ok(all),
+        Ok(all) => Ok(Answer::Pulls(all)),
         Err(_) => Err(Unasked::Memory),
     }
 }
@@ -96,35 +100,33 @@ pub(super) fn ask_supertraits<I: Interner>(
     terms: &Ready<I>,
     clause: usize,
     limit: Option<usize>,
-) -> Result<Vec<PulledOf<I>>, Unasked>
+) -> Outcome<I>
     requires lawful { IsLawful (I.meaning ctx.old.interner) ctx.old.inner }
     requires ready { AllReady (I.meaning ctx.old.interner) terms.now }
     ensures lawful { IsLawful (I.meaning ctx.new.interner) ctx.new.inner }
     ensures grown { Extends (I.meaning ctx.old.interner) (I.meaning ctx.new.interner) }
-    ensures sure { IfOk result (λ all. All (KnowsPulled (I.meaning ctx.new.interner)) all.items) }
+    ensures known { let m = I.meaning ctx.new.interner in
+        IfOk result (KnowsAnswer m (KnowsRelated m)) }
 {
     let Some(of) = bound_of(&mut ctx.interner, terms, clause) else {
         return Err(Unasked::Memory);
     };
     match supertraits_of(&mut ctx.interner, of, told(limit).unwrap_or(LIMIT)) {
-        Ok(all) => Ok(all),
+        Ok(all) => Ok(Answer::Pulls(all)),
         Err(_) => Err(Unasked::Memory),
     }
 }
 
 // The same of a trait of a program.
-pub(super) fn ask_supertrait_ids<I: Interner>(
-    cx: &I,
-    terms: &Ready<I>,
-    item: usize,
-) -> Result<Vec<PulledOf<I>>, Unasked>
-    ensures { (m : Meaning I.Key I.Id I.Name) → IfOk result (λ all. All (KnowsPulled m) all.items) }
+pub(super) fn ask_supertrait_ids<I: Interner>(cx: &I, terms: &Ready<I>, item: usize) -> Outcome<I>
+    ensures { let m = I.meaning cx.now in
+        IfOk result (KnowsAnswer m (KnowsRelated m)) }
 {
     let Some(id) = terms.ids.get(item) else {
         return Err(Unasked::Memory);
     };
     match supertrait_ids_of(cx, *id, terms.ids.len()) {
-        Ok(all) => Ok(all),
+        Ok(all) => Ok(Answer::Pulls(all)),
         Err(_) => Err(Unasked::Memory),
     }
 }

@@ -1,22 +1,24 @@
 //! Questions are asked in turn, and their answers are written, with a text of the caller's between two.
 #![tactic(auto)]
 
+ghost use Rattle.variable_tables.specs.Tables.{IsLawful};
 ghost use Rattle.text_asking.specs.Asking.{AllReady};
+ghost use Rattle.text_asking.specs.Fits.{AllFit};
 
 mod answer_text;
 mod coherence;
 mod comparing;
 mod context;
 mod counts;
-mod depth;
 mod elaborating;
 mod environment;
+mod fits;
 mod folding;
-mod growth;
-mod interner;
 mod lists;
 mod outliving;
 pub mod printing;
+pub mod programs;
+mod proving;
 mod question;
 mod quick;
 mod regions;
@@ -27,19 +29,17 @@ mod walking;
 mod writing;
 
 use answer_text::AnswerText;
-use depth::{Counts, Depths};
-use growth::Growths;
-use interner::{Tables, make_interner, make_tables};
-use question::{Ready, ask_unless, context_for};
+use fits::fits_of;
+use question::{Ready, ask_unless, budget_of, context_for, why_not_held};
+use reference_interner::RefInterner;
 use relation_reference::context::RefCtxt;
 use relation_semantics::infer_ctxt::TypingMode;
 use sized_keys::SizedKeys;
-use std::alloc::Global;
+use std::alloc::{AllocError, Global};
 use std::fmt::{self, Write};
-use text_elaboration::stating::state_all;
-use text_needs::binding::uses_of;
-pub use text_needs::needs;
-use text_needs::needs::needs_of;
+use text_depths::{Counts, Depths, Growths};
+use text_elaboration::items::state;
+use text_elaboration::pulls::LIMIT;
 use text_reading::naming::Program;
 use text_terms::building::build;
 use text_terms::printing::TextsOf;
@@ -51,54 +51,62 @@ const NOT_OWN: &str = "not asked: what a trait states is to bind its variables i
 /// How many instantiations a context may make where nothing is said of it.
 pub const BUDGET: usize = 100;
 
-// Writes what stands between two answers, before each but the first.
-fn separate<W: Write>(any: bool, between: &str, out: &mut W) -> fmt::Result {
-    if any {
-        return out.write_str(between);
-    }
-    Ok(())
+// What is kept from question to question beside their context.
+#[derive(Drop)]
+struct Kept {
+    text: AnswerText,
+    depths: Depths,
+    growths: Growths,
 }
 
-// Asks all questions over terms that are ready.
+impl Kept {
+    // Before the first question.
+    fn new(alloc: Global, program: &Program) -> Result<Kept, AllocError> {
+        let text = AnswerText::new(alloc)?;
+        let depths = Depths::new(alloc, program)?;
+        let growths = Growths::new(alloc, program, LIMIT)?;
+        Ok(Kept {
+            text,
+            depths,
+            growths,
+        })
+    }
+}
+
+// Asks all questions over terms that are ready, each in a context over the interner of this one.
 fn ask_ready<I: SizedKeys + Drop, W: Write>(
-    interner: I,
+    ctx: RefCtxt<I>,
     texts: &TextsOf<I>,
     program: &Program,
     terms: &Ready<I>,
     between: &str,
     out: &mut W,
 ) -> fmt::Result
-    requires { AllReady (I.meaning interner) terms.now }
+    requires lawful { IsLawful (I.meaning ctx.interner) ctx.inner }
+    requires ready { AllReady (I.meaning ctx.interner) terms.now }
+    requires fit { AllFit (I.meaning ctx.interner) terms.now }
 {
-    let alloc = interner.alloc();
-    let Ok(made) = RefCtxt::new(interner, TypingMode::PostAnalysis, true, BUDGET) else {
+    let Ok(begun) = Kept::new(ctx.interner.alloc(), program) else {
         return refuse_all(program, between, out);
     };
-    let Ok(room) = AnswerText::new(alloc) else {
-        return refuse_all(program, between, out);
-    };
-    let Ok(begun) = Depths::new(alloc, program) else {
-        return refuse_all(program, between, out);
-    };
-    let Ok(growths) = Growths::new(alloc, program) else {
-        return refuse_all(program, between, out);
-    };
-    let mut depths = begun;
-    let mut text = room;
-    let mut ctx = made;
+    let mut kept = begun;
+    let mut ctx = ctx;
     let mut any = false;
     for question in &program.questions {
-        separate(any, between, out)?;
+        out.write_str(if any { between } else { "" })?;
         let asked = context_for(ctx, terms, question);
         let counts = Counts {
             types: asked.inner.types.len(),
             consts: asked.inner.consts.len(),
         };
-        let why_not = depths.refusal(program, terms.needs, question, counts);
-        let bounded = growths.bounded(program, question);
+        let why_not = why_not_held(
+            kept.depths
+                .take_up(program, question, counts, budget_of(question)),
+        );
+        let bounded = kept.growths.bounded(program, question);
         let (left, outcome) = ask_unless(asked, terms, &bounded.question, why_not);
         ctx = left;
-        write_whole(&ctx, texts, &bounded, &outcome, &mut text, out)?;
+        write_whole(&ctx, texts, &bounded, &outcome, &mut kept.text, out)?;
         any = true;
     }
     Ok(())
@@ -113,7 +121,7 @@ fn answer_all<W: Write>(
 ) -> fmt::Result {
     let mut any = false;
     for _ in &program.questions {
-        separate(any, between, out)?;
+        out.write_str(if any { between } else { "" })?;
         out.write_str(answer)?;
         any = true;
     }
@@ -142,33 +150,33 @@ pub fn ask_over<I: SizedKeys + Drop, W: Write>(
     out: &mut W,
 ) -> fmt::Result {
     let mut interner = interner;
-    let alloc = interner.alloc();
     let Ok(no_ids) = interner.no_local_def_ids() else {
         return refuse_all(program, between, out);
     };
     let Ok(built) = build(&mut interner, ids, names, program) else {
         return refuse_all(program, between, out);
     };
-    let Ok(uses) = uses_of(alloc, program) else {
+    let Ok(made) = RefCtxt::new(interner, TypingMode::PostAnalysis, true, BUDGET) else {
         return refuse_all(program, between, out);
     };
-    let Ok(needs) = needs_of(alloc, program, &uses) else {
+    let Ok((ctx, fits)) = fits_of(made, &built, program) else {
         return refuse_all(program, between, out);
     };
     let terms = Ready {
         built: &built,
-        needs: &needs,
+        fits: &fits,
         parts: &program.parts,
         puts: &program.puts,
         skips: &program.skips,
         clauses: &program.clauses,
         methods: &program.methods,
+        impls: &program.impls,
         ids,
         names,
         no_ids,
         variables: &program.variables,
     };
-    ask_ready(interner, texts, program, &terms, between, out)
+    ask_ready(ctx, texts, program, &terms, between, out)
 }
 
 /// Asks all questions of a program in turn over the reference interner, and writes the answers, with the given text
@@ -183,17 +191,20 @@ pub fn ask_all<W: Write>(
     between: &str,
     out: &mut W,
 ) -> fmt::Result {
-    let Ok((mut interner, ids)) = make_interner(alloc, program) else {
+    let mut interner = RefInterner::new(alloc);
+    let Ok(stated) = state(&mut interner, program) else {
         return refuse_all(program, between, out);
     };
-    let Ok(tables) = make_tables(alloc, program, &ids) else {
-        return refuse_all(program, between, out);
-    };
-    let Tables { names, texts } = tables;
-    match state_all(&mut interner, &ids, &names, program) {
-        Ok(true) => {}
-        Ok(false) => return answer_all(program, NOT_OWN, between, out),
-        Err(_) => return refuse_all(program, between, out),
+    if !stated.own {
+        return answer_all(program, NOT_OWN, between, out);
     }
-    ask_over(interner, &ids, &names, &texts, program, between, out)
+    ask_over(
+        interner,
+        &stated.ids,
+        &stated.names,
+        &stated.texts,
+        program,
+        between,
+        out,
+    )
 }

@@ -3,40 +3,34 @@ ghost use Rattle.std.specs.Prelude.{◌≡◌, IsTrue, IfOk};
 ghost use Rattle.relation_terms.specs.Trees.{known, count};
 ghost use Rattle.relation_terms.specs.Meaning.{Extends};
 ghost use Rattle.variable_tables.specs.Tables.{IsLawful};
-ghost use Rattle.text_asking.specs.Asking.{AllReady, IsReady, KnowsRelated};
+ghost use Rattle.text_asking.specs.Asking.{AllReady, KnowsAnswer, KnowsRelated};
 
-use crate::context::{NotAsked, have_variables, refusal, relate};
-use crate::environment::environment_of;
-use crate::question::{Ready, Unasked};
+use crate::context::{NotAsked, may_ask, relate};
+use crate::environment::environment_for;
+use crate::fits::needs_of;
+use crate::question::{Answer, Outcome, Ready, Unasked, terms_of};
+use may_relate::{may_relate, named_in};
 use relation_reference::context::RefCtxt;
 use relation_terms::terms::parts::member_count;
 use relation_terms::terms::{GenericArgs, Interner, Parts as PartsOfTerm, Variance};
-use text_needs::needs::{Needs, both, parts_need};
 use text_reading::naming::Parts;
 use text_reading::reading::Relation;
-use text_terms::building::keys_at;
-use type_relations::relate::solver_relating::RelateGoals;
 
-// The arguments of a list of terms, and what they need.
+// The arguments of a list of terms.
 pub(super) fn args_of<I: Interner>(
     ctx: &mut RefCtxt<I>,
     terms: &Ready<I>,
     list: Parts,
-) -> Result<(GenericArgs<I>, Needs), Unasked>
+) -> Result<GenericArgs<I>, Unasked>
     requires lawful { IsLawful (I.meaning ctx.old.interner) ctx.old.inner }
     requires ready { AllReady (I.meaning ctx.old.interner) terms.now }
     ensures lawful { IsLawful (I.meaning ctx.new.interner) ctx.new.inner }
     ensures grown { Extends (I.meaning ctx.old.interner) (I.meaning ctx.new.interner) }
-    ensures sure { IfOk result (λ p. IsReady p.1 ((I.meaning ctx.new.interner).args p.0)) }
+    ensures sure { IfOk result (λ args. IsTrue (known ((I.meaning ctx.new.interner).args args))) }
 {
-    let alloc = ctx.interner.alloc();
-    let Some(keys) = keys_at(alloc, terms.parts, terms.built, list) else {
-        return Err(Unasked::Memory);
-    };
-    match ctx.interner.mk_args(&keys) {
-        Ok(args) => Ok((args, parts_need(terms.parts, terms.needs, list))),
-        Err(_) => Err(Unasked::Memory),
-    }
+    let keys = terms_of(ctx.interner.alloc(), terms, list)?;
+    let args = ctx.interner.mk_args(&keys)?;
+    Ok(args)
 }
 
 // Whether two lists have as many arguments.
@@ -50,37 +44,35 @@ fn are_as_many<I: Interner>(cx: &I, lhs: &GenericArgs<I>, rhs: &GenericArgs<I>) 
     left == right
 }
 
-// Relates two lists of arguments where that is assumed. It is said what the lists need, if they may be asked about.
-fn relate_ready<I: Interner>(
+// Relates two lists of arguments that are known, where that is assumed.
+fn relate_args<I: Interner>(
     ctx: &mut RefCtxt<I>,
     terms: &Ready<I>,
     assumed: Parts,
-    lhs: (GenericArgs<I>, Needs),
-    rhs: (GenericArgs<I>, Needs),
-) -> Result<RelateGoals<I>, Unasked>
+    lhs: GenericArgs<I>,
+    rhs: GenericArgs<I>,
+) -> Outcome<I>
     requires lawful { IsLawful (I.meaning ctx.old.interner) ctx.old.inner }
     requires ready { AllReady (I.meaning ctx.old.interner) terms.now }
-    requires lhs_ready { IsReady lhs.1 ((I.meaning ctx.old.interner).args lhs.0) }
-    requires rhs_ready { IsReady rhs.1 ((I.meaning ctx.old.interner).args rhs.0) }
+    requires lhs_known { IsTrue (known ((I.meaning ctx.old.interner).args lhs)) }
+    requires rhs_known { IsTrue (known ((I.meaning ctx.old.interner).args rhs)) }
     ensures lawful { IsLawful (I.meaning ctx.new.interner) ctx.new.inner }
     ensures grown { Extends (I.meaning ctx.old.interner) (I.meaning ctx.new.interner) }
-    ensures known { IfOk result (KnowsRelated (I.meaning ctx.new.interner)) }
+    ensures known { let m = I.meaning ctx.new.interner in
+        IfOk result (KnowsAnswer m (KnowsRelated m)) }
 {
-    let (lhs, lhs_needs) = lhs;
-    let (rhs, rhs_needs) = rhs;
-    let relation = Relation::At(Variance::Invariant);
-    if let Some(why) = refusal(ctx, relation, lhs_needs, rhs_needs) {
-        return Err(Unasked::NotAsked(why));
-    }
     if !are_as_many(&ctx.interner, &lhs, &rhs) {
         return Err(Unasked::NotAsked(NotAsked::Lengths));
     }
-    let Ok(()) = have_variables(ctx, both(lhs_needs, rhs_needs)) else {
-        return Err(Unasked::Memory);
-    };
-    let param_env = environment_of(&mut ctx.interner, terms, assumed)?;
+    let relation = Relation::At(Variance::Invariant);
+    let lhs_needs = needs_of(named_in(&ctx.interner, &lhs));
+    let rhs_needs = needs_of(named_in(&ctx.interner, &rhs));
+    let param_env = environment_for(ctx, terms, assumed, &lhs_needs, &rhs_needs)?;
+    let lhs_fits = may_relate(&*ctx, &lhs);
+    let rhs_fits = may_relate(&*ctx, &rhs);
+    may_ask(lhs_fits, relation, rhs_fits)?;
     let span = ctx.interner.dummy_span();
-    Ok(relate(ctx, param_env, lhs, relation, rhs, span))
+    Ok(Answer::Related(relate(ctx, param_env, lhs, relation, rhs, span)))
 }
 
 // Relates two lists of arguments in a context where that is assumed.
@@ -90,14 +82,15 @@ pub(super) fn ask_args_related<I: Interner>(
     assumed: Parts,
     lhs: Parts,
     rhs: Parts,
-) -> Result<RelateGoals<I>, Unasked>
+) -> Outcome<I>
     requires lawful { IsLawful (I.meaning ctx.old.interner) ctx.old.inner }
     requires ready { AllReady (I.meaning ctx.old.interner) terms.now }
     ensures lawful { IsLawful (I.meaning ctx.new.interner) ctx.new.inner }
     ensures grown { Extends (I.meaning ctx.old.interner) (I.meaning ctx.new.interner) }
-    ensures known { IfOk result (KnowsRelated (I.meaning ctx.new.interner)) }
+    ensures known { let m = I.meaning ctx.new.interner in
+        IfOk result (KnowsAnswer m (KnowsRelated m)) }
 {
     let lhs = args_of(ctx, terms, lhs)?;
     let rhs = args_of(ctx, terms, rhs)?;
-    relate_ready(ctx, terms, assumed, lhs, rhs)
+    relate_args(ctx, terms, assumed, lhs, rhs)
 }

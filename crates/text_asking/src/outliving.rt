@@ -6,11 +6,11 @@ ghost use Rattle.relation_terms.specs.Meaning.{Meaning, Extends, arg_tree};
 ghost use Rattle.outlives_assumptions.specs.Assumptions.{IsKnown};
 ghost use Rattle.variable_tables.specs.Tables.{IsLawful};
 ghost use Rattle.text_asking.specs.Meets.{AllKnown};
-ghost use Rattle.text_asking.specs.Asking.{AllReady};
+ghost use Rattle.text_asking.specs.Asking.{AllReady, KnowsAnswer, KnowsRelated};
 ghost use Rattle.text_asking.specs.Outlives.{KnowsComponent, KnowsComponents};
 
 use crate::answer_text::{AnswerText, CUT_OFF, LONGEST};
-use crate::question::{Ready, Unasked, terms_of, type_of};
+use crate::question::{Answer, Outcome, Ready, Unasked, terms_of, type_of};
 use crate::sized_keys::SizedKeys;
 use relation_reference::context::RefCtxt;
 use relation_terms::predicate::OutlivesPredicate;
@@ -30,21 +30,14 @@ use text_terms::printing::{
 const BETWEEN: &str = " | ";
 
 // The components of a type.
-pub(super) fn ask_components<I: SizedKeys>(
-    cx: &I,
-    terms: &Ready<I>,
-    number: usize,
-) -> Result<Vec<ComponentOf<I>>, Unasked>
+pub(super) fn ask_components<I: SizedKeys>(cx: &I, terms: &Ready<I>, number: usize) -> Outcome<I>
     requires { AllReady (I.meaning cx.now) terms.now }
-    ensures { IfOk result (λ found. KnowsComponents (I.meaning cx.now) found.items) }
+    ensures { let m = I.meaning cx.now in
+        IfOk result (KnowsAnswer m (KnowsRelated m)) }
 {
-    let Some((ty, _)) = type_of(terms, number) else {
-        return Err(Unasked::Memory);
-    };
-    match cx.components(&ty) {
-        Ok(found) => Ok(found),
-        Err(_) => Err(Unasked::Memory),
-    }
+    let ty = type_of(terms, number)?;
+    let found = cx.components(&ty)?;
+    Ok(Answer::Components(found))
 }
 
 // Writes a component. One of an alias that a variable escapes is written as the components of the alias's arguments.
@@ -155,12 +148,13 @@ pub(super) fn ask_assumptions<I: Interner>(
     terms: &Ready<I>,
     assumed: Parts,
     regions: Parts,
-) -> Result<Vec<OutlivesAssumption<I>>, Unasked>
+) -> Outcome<I>
     requires lawful { IsLawful (I.meaning ctx.old.interner) ctx.old.inner }
     requires ready { AllReady (I.meaning ctx.old.interner) terms.now }
     ensures lawful { IsLawful (I.meaning ctx.new.interner) ctx.new.inner }
     ensures grown { Extends (I.meaning ctx.old.interner) (I.meaning ctx.new.interner) }
-    ensures sure { IfOk result (λ all. All (IsKnown (I.meaning ctx.new.interner)) all.items) }
+    ensures known { let m = I.meaning ctx.new.interner in
+        IfOk result (KnowsAnswer m (KnowsRelated m)) }
 {
     let alloc = ctx.interner.alloc();
     let assumed = terms_of(alloc, terms, assumed)?;
@@ -169,7 +163,7 @@ pub(super) fn ask_assumptions<I: Interner>(
         return Err(Unasked::Memory);
     };
     match followed(&mut ctx.interner, &assumptions) {
-        Ok(all) => Ok(all),
+        Ok(all) => Ok(Answer::Assumed(all)),
         Err(_) => Err(Unasked::Memory),
     }
 }

@@ -419,7 +419,7 @@ fn write_bound_consts<I: Interner, W: Write>(
 }
 
 // Writes the roots that are bound, if any, each with its term: of types, integers, floats and constants.
-fn write_bound<I: Interner, W: Write>(
+pub(crate) fn write_bound<I: Interner, W: Write>(
     ctx: &RefCtxt<I>,
     texts: &TextsOf<I>,
     out: &mut W,

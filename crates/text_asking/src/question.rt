@@ -1,20 +1,23 @@
 //! A question that is asked, and its answer.
-ghost use Rattle.std.specs.Prelude.{◌≡◌, IsTrue, IsFalse, IfSome, IfOk};
+ghost use Rattle.std.specs.Prelude.{◌≡◌, IsTrue, IsFalse, IfOk};
 ghost use Rattle.relation_terms.specs.Trees.{known};
 ghost use Rattle.relation_terms.specs.Meaning.{Meaning, Extends, arg_tree};
 ghost use Rattle.variable_tables.specs.Tables.{IsLawful};
 ghost use Rattle.text_asking.specs.Puts.{ArePuts};
 ghost use Rattle.text_asking.specs.Meets.{AllKnown};
-ghost use Rattle.text_asking.specs.Asking.{AllReady, IsReady, IsSetUp, KnowsAnswer, KnowsRelated};
+ghost use Rattle.text_asking.specs.Asking.{AllReady, IsSetUp, KnowsAnswer, KnowsRelated};
+ghost use Rattle.text_asking.specs.Fits.{AllFit, IsFit};
 
 use crate::BUDGET;
 use crate::coherence::{ask_impls_overlap, ask_methods};
-use crate::context::{NotAsked, have_all_stated, have_variables, refusal, relate, renewed};
+use crate::context::{NotAsked, have_all_stated, may_ask, relate, renewed};
 use crate::elaborating::{ask_elaborated, ask_supertrait_ids, ask_supertraits, told};
-use crate::environment::environment_of;
+use crate::environment::environment_for;
+use crate::fits::{Fit, fit_at};
 use crate::folding::{fold, puts_at};
 use crate::lists::ask_args_related;
 use crate::outliving::{ask_assumptions, ask_components};
+use crate::proving::ask_proved;
 use crate::quick::{KeyOf, ask_args_may_unify, ask_key, ask_may_unify};
 use crate::regions::ask_regions;
 use crate::roots::{ask_binding, ask_one};
@@ -24,25 +27,29 @@ use crate::walking::numbers_at;
 use relation_coherence::overlap::Overlap;
 use relation_folds::error::RelateFault;
 use relation_folds::visit::{has_escaping_bound_vars, has_non_region_infer, is_known_rigid};
+use relation_proving::proving::Told;
 use relation_reference::context::RefCtxt;
 use relation_regions::Solved;
 use relation_terms::predicate::OutlivesPredicate;
-use relation_terms::terms::{GenericArg, GenericArgKind, Interner, Keys, LocalDefIds, TraitId, Ty};
+use relation_terms::terms::{
+    GenericArg, GenericArgKind, Interner, Keys, LocalDefIds, OutOfMemory, TraitId, Ty,
+};
 use relation_tools::outlives::Component;
-use std::alloc::Global;
+use std::alloc::{AllocError, Global};
 use text_elaboration::pulls::{Manner, Pulled};
-use text_needs::needs::{Needs, both, need_at};
-use text_reading::naming::{Clause, Method, Parts, Put, Question, QuestionKind, Variables};
+use text_proving::proving::WhyNot as WhyUnproved;
+use text_reading::naming::{Clause, Impl, Method, Parts, Put, Question, QuestionKind, Variables};
 use text_reading::reading::Relation;
 use text_terms::building::{key_at, keys_at, ty_at};
 use text_users::overlapping::WhyNot;
 use type_relations::relate::solver_relating::RelateGoals;
 
-// The keys of a program's terms, and what each term needs.
+// The keys of a program's terms, and what questions name by numbers.
 #[derive(Drop)]
 pub(super) struct Ready<'a, I: Interner> {
     pub built: &'a [Option<GenericArg<I>>],
-    pub needs: &'a [Needs],
+    // What those terms need that questions relate.
+    pub fits: &'a [Option<Fit>],
     // The numbers of the terms in lists, and of those that are put for others.
     pub parts: &'a [usize],
     pub puts: &'a [Put<usize>],
@@ -52,6 +59,8 @@ pub(super) struct Ready<'a, I: Interner> {
     pub clauses: &'a [Clause],
     // The methods of tables.
     pub methods: &'a [Method],
+    // The impls that goals may follow from.
+    pub impls: &'a [Impl],
     pub ids: &'a [I::Id],
     pub names: &'a [I::Name],
     // The list without ids, which typing modes name.
@@ -68,6 +77,20 @@ pub(super) enum Unasked {
     NotAsked(NotAsked),
     // Why two impls are not asked about.
     Impls(WhyNot),
+    // Why it is not asked whether a goal follows.
+    Proof(WhyUnproved),
+}
+
+impl From<OutOfMemory> for Unasked {
+    fn from(_refused: OutOfMemory) -> Unasked {
+        Unasked::Memory
+    }
+}
+
+impl From<NotAsked> for Unasked {
+    fn from(why: NotAsked) -> Unasked {
+        Unasked::NotAsked(why)
+    }
 }
 
 // What is answered to a question.
@@ -87,6 +110,8 @@ pub(super) enum Answer<R, K, X: Copy, D, N> {
     // Of two impls of a trait.
     Overlap(TraitId<D>, Result<Overlap<X, D, N>, RelateFault<X, D, N>>),
     Methods(Vec<N>),
+    // Of a goal.
+    Proved(Result<Told, RelateFault<X, D, N>>),
 }
 
 // What is answered to a question over an interner.
@@ -100,6 +125,15 @@ pub(super) type AnswerOf<I> = Answer<
 
 // What came of a question.
 pub(super) type Outcome<I> = Result<AnswerOf<I>, Unasked>;
+
+// Why a question is not asked, by whether the stack holds what it comes to.
+pub(super) fn why_not_held(held: Result<bool, AllocError>) -> Option<Unasked> {
+    match held {
+        Ok(true) => None,
+        Ok(false) => Some(Unasked::NotAsked(NotAsked::Depth)),
+        Err(_) => Some(Unasked::Memory),
+    }
+}
 
 // How many instantiations a new context of a question may make.
 pub(super) fn budget_of(question: &Question) -> usize {
@@ -125,12 +159,27 @@ pub(super) fn context_for<I: Interner>(
     renewed(ctx, terms.no_ids, question.setup, budget_of(question))
 }
 
-// The type of that number, and what it needs.
-pub(super) fn type_of<I: Interner>(terms: &Ready<I>, number: usize) -> Option<(Ty<I>, Needs)>
-    ensures { (m : Meaning I.Key I.Id I.Name) → AllReady m terms.now → IfSome result (λ p. IsReady p.1 (m.ty p.0)) }
+// The type of that number.
+pub(super) fn type_of<I: Interner>(terms: &Ready<I>, number: usize) -> Result<Ty<I>, Unasked>
+    ensures { (m : Meaning I.Key I.Id I.Name) → AllReady m terms.now → IfOk result (λ ty. IsTrue (known (m.ty ty))) }
 {
-    let ty = ty_at(terms.built, number)?;
-    Some((ty, need_at(terms.needs, number)))
+    match ty_at(terms.built, number) {
+        Some(ty) => Ok(ty),
+        None => Err(Unasked::Memory),
+    }
+}
+
+// The type of that number, and what it needs.
+fn fit_type_of<I: Interner>(terms: &Ready<I>, number: usize) -> Result<(Ty<I>, Fit), Unasked>
+    ensures known { (m : Meaning I.Key I.Id I.Name) → AllReady m terms.now →
+        IfOk result (λ p. IsTrue (known (m.ty p.0))) }
+    ensures fit { (m : Meaning I.Key I.Id I.Name) → AllFit m terms.now →
+        IfOk result (λ p. IsFit m (GenericArgKind.Ty p.0) p.1) }
+{
+    match (ty_at(terms.built, number), fit_at(terms.fits, number)) {
+        (Some(ty), Some(fit)) => Ok((ty, fit)),
+        _ => Err(Unasked::Memory),
+    }
 }
 
 // Asks in a context whether two types are related where that is assumed.
@@ -141,28 +190,21 @@ fn ask_related<I: Interner>(
     lhs: usize,
     relation: Relation,
     rhs: usize,
-) -> Result<RelateGoals<I>, Unasked>
+) -> Outcome<I>
     requires lawful { IsLawful (I.meaning ctx.old.interner) ctx.old.inner }
     requires ready { AllReady (I.meaning ctx.old.interner) terms.now }
+    requires fit { AllFit (I.meaning ctx.old.interner) terms.now }
     ensures lawful { IsLawful (I.meaning ctx.new.interner) ctx.new.inner }
     ensures grown { Extends (I.meaning ctx.old.interner) (I.meaning ctx.new.interner) }
-    ensures known { IfOk result (KnowsRelated (I.meaning ctx.new.interner)) }
+    ensures known { let m = I.meaning ctx.new.interner in
+        IfOk result (KnowsAnswer m (KnowsRelated m)) }
 {
-    let Some((lhs, lhs_needs)) = type_of(terms, lhs) else {
-        return Err(Unasked::Memory);
-    };
-    let Some((rhs, rhs_needs)) = type_of(terms, rhs) else {
-        return Err(Unasked::Memory);
-    };
-    if let Some(why) = refusal(ctx, relation, lhs_needs, rhs_needs) {
-        return Err(Unasked::NotAsked(why));
-    }
-    let Ok(()) = have_variables(ctx, both(lhs_needs, rhs_needs)) else {
-        return Err(Unasked::Memory);
-    };
-    let param_env = environment_of(&mut ctx.interner, terms, assumed)?;
+    let (lhs, lhs_fit) = fit_type_of(terms, lhs)?;
+    let (rhs, rhs_fit) = fit_type_of(terms, rhs)?;
+    let param_env = environment_for(ctx, terms, assumed, &lhs_fit.needs, &rhs_fit.needs)?;
+    may_ask(lhs_fit.fits, relation, rhs_fit.fits)?;
     let span = ctx.interner.dummy_span();
-    Ok(relate(ctx, param_env, lhs, relation, rhs, span))
+    Ok(Answer::Related(relate(ctx, param_env, lhs, relation, rhs, span)))
 }
 
 // The term of that number.
@@ -211,35 +253,30 @@ fn ask_visited<I: Interner>(
     term: usize,
     skip: Parts,
     stop: Parts,
-) -> Result<Met<I::Key>, Unasked>
+) -> Outcome<I>
     requires { AllReady (I.meaning cx.now) terms.now }
-    ensures { IfOk result (λ met. AllKnown (I.meaning cx.now) met.terms.items) }
+    ensures { let m = I.meaning cx.now in
+        IfOk result (KnowsAnswer m (KnowsRelated m)) }
 {
     let term = term_of(terms, term)?;
     let skip = terms_of(cx.alloc(), terms, skip)?;
     let stop = terms_of(cx.alloc(), terms, stop)?;
     match visit(cx, &term, &skip, &stop) {
-        Some(met) => Ok(met),
+        Some(met) => Ok(Answer::Met(met)),
         None => Err(Unasked::Memory),
     }
 }
 
 // Walks a term.
-fn ask_walked<I: SizedKeys>(
-    cx: &I,
-    terms: &Ready<I>,
-    term: usize,
-    skips: Parts,
-) -> Result<Vec<GenericArg<I>>, Unasked>
+fn ask_walked<I: SizedKeys>(cx: &I, terms: &Ready<I>, term: usize, skips: Parts) -> Outcome<I>
     requires { AllReady (I.meaning cx.now) terms.now }
-    ensures { IfOk result (λ yielded. AllKnown (I.meaning cx.now) yielded.items) }
+    ensures { let m = I.meaning cx.now in
+        IfOk result (KnowsAnswer m (KnowsRelated m)) }
 {
     let term = term_of(terms, term)?;
     let skips = numbers_at(terms.skips, skips);
-    match cx.walk(&term, skips) {
-        Ok(yielded) => Ok(yielded),
-        Err(_) => Err(Unasked::Memory),
-    }
+    let yielded = cx.walk(&term, skips)?;
+    Ok(Answer::Walked(yielded))
 }
 
 // Folds a term.
@@ -248,17 +285,18 @@ fn ask_folded<I: Interner>(
     terms: &Ready<I>,
     term: usize,
     puts: Parts,
-) -> Result<GenericArg<I>, Unasked>
+) -> Outcome<I>
     requires lawful { IsLawful (I.meaning ctx.old.interner) ctx.old.inner }
     requires ready { AllReady (I.meaning ctx.old.interner) terms.now }
     ensures lawful { IsLawful (I.meaning ctx.new.interner) ctx.new.inner }
     ensures grown { Extends (I.meaning ctx.old.interner) (I.meaning ctx.new.interner) }
-    ensures sure { IfOk result (λ key. IsTrue (known (arg_tree (I.meaning ctx.new.interner) key))) }
+    ensures known { let m = I.meaning ctx.new.interner in
+        IfOk result (KnowsAnswer m (KnowsRelated m)) }
 {
     let term = term_of(terms, term)?;
     let puts = puts_of(ctx.interner.alloc(), terms, puts)?;
     match fold(&mut ctx.interner, &term, &puts) {
-        Ok(folded) => Ok(folded),
+        Ok(folded) => Ok(Answer::Folded(folded)),
         Err(_) => Err(Unasked::Memory),
     }
 }
@@ -283,10 +321,19 @@ fn ask_infers<I: Interner>(cx: &I, terms: &Ready<I>, number: usize) -> Result<bo
 fn ask_rigid<I: Interner>(cx: &I, terms: &Ready<I>, number: usize) -> Result<bool, Unasked>
     requires { AllReady (I.meaning cx.now) terms.now }
 {
-    let Some((ty, _)) = type_of(terms, number) else {
-        return Err(Unasked::Memory);
-    };
+    let ty = type_of(terms, number)?;
     Ok(is_known_rigid(cx, &ty))
+}
+
+// Whether something holds, as an answer.
+fn whether<I: Interner>(cx: &I, asked: Result<bool, Unasked>) -> Outcome<I>
+    ensures { let m = I.meaning cx.now in
+        IfOk result (KnowsAnswer m (KnowsRelated m)) }
+{
+    match asked {
+        Ok(holds) => Ok(Answer::Is(holds)),
+        Err(why) => Err(why),
+    }
 }
 
 // Asks a question of a context.
@@ -294,6 +341,7 @@ fn ask_rigid<I: Interner>(cx: &I, terms: &Ready<I>, number: usize) -> Result<boo
 fn ask<I: SizedKeys>(ctx: &mut RefCtxt<I>, terms: &Ready<I>, question: &Question) -> Outcome<I>
     requires lawful { IsLawful (I.meaning ctx.old.interner) ctx.old.inner }
     requires ready { AllReady (I.meaning ctx.old.interner) terms.now }
+    requires fit { AllFit (I.meaning ctx.old.interner) terms.now }
     ensures lawful { IsLawful (I.meaning ctx.new.interner) ctx.new.inner }
     ensures grown { Extends (I.meaning ctx.old.interner) (I.meaning ctx.new.interner) }
     ensures known { let m = I.meaning ctx.new.interner in
@@ -301,43 +349,29 @@ fn ask<I: SizedKeys>(ctx: &mut RefCtxt<I>, terms: &Ready<I>, question: &Question
 {
     match question.kind {
         QuestionKind::Relate { lhs, relation, rhs } => {
-            let related = ask_related(ctx, terms, question.assumed, lhs, relation, rhs)?;
-            Ok(Answer::Related(related))
+            ask_related(ctx, terms, question.assumed, lhs, relation, rhs)
         }
         QuestionKind::Visit { term, skip, stop } => {
-            let met = ask_visited(&ctx.interner, terms, term, skip, stop)?;
-            Ok(Answer::Met(met))
+            ask_visited(&ctx.interner, terms, term, skip, stop)
         }
-        QuestionKind::Walk { term, skips } => {
-            let yielded = ask_walked(&ctx.interner, terms, term, skips)?;
-            Ok(Answer::Walked(yielded))
-        }
-        QuestionKind::Components(number) => {
-            let found = ask_components(&ctx.interner, terms, number)?;
-            Ok(Answer::Components(found))
-        }
+        QuestionKind::Walk { term, skips } => ask_walked(&ctx.interner, terms, term, skips),
+        QuestionKind::Components(number) => ask_components(&ctx.interner, terms, number),
         QuestionKind::Assumptions {
             terms: list,
             regions,
-        } => {
-            let all = ask_assumptions(ctx, terms, list, regions)?;
-            Ok(Answer::Assumed(all))
-        }
-        QuestionKind::Fold { term, puts } => {
-            let folded = ask_folded(ctx, terms, term, puts)?;
-            Ok(Answer::Folded(folded))
-        }
+        } => ask_assumptions(ctx, terms, list, regions),
+        QuestionKind::Fold { term, puts } => ask_folded(ctx, terms, term, puts),
         QuestionKind::Escapes(number) => {
-            let escapes = ask_escapes(&ctx.interner, terms, number)?;
-            Ok(Answer::Is(escapes))
+            let cx = &ctx.interner;
+            whether(cx, ask_escapes(cx, terms, number))
         }
         QuestionKind::Infers(number) => {
-            let infers = ask_infers(&ctx.interner, terms, number)?;
-            Ok(Answer::Is(infers))
+            let cx = &ctx.interner;
+            whether(cx, ask_infers(cx, terms, number))
         }
         QuestionKind::Rigid(number) => {
-            let rigid = ask_rigid(&ctx.interner, terms, number)?;
-            Ok(Answer::Is(rigid))
+            let cx = &ctx.interner;
+            whether(cx, ask_rigid(cx, terms, number))
         }
         QuestionKind::MayUnify {
             params,
@@ -345,21 +379,17 @@ fn ask<I: SizedKeys>(ctx: &mut RefCtxt<I>, terms: &Ready<I>, question: &Question
             rhs,
             depth,
         } => {
-            let may = ask_may_unify(&ctx.interner, terms, params, lhs, rhs, depth)?;
-            Ok(Answer::Is(may))
+            let cx = &ctx.interner;
+            whether(cx, ask_may_unify(cx, terms, params, lhs, rhs, depth))
         }
         QuestionKind::ArgsMayUnify { params, lhs, rhs } => {
-            let may = ask_args_may_unify(ctx, terms, params, lhs, rhs)?;
-            Ok(Answer::Is(may))
+            let may = ask_args_may_unify(ctx, terms, params, lhs, rhs);
+            whether(&ctx.interner, may)
         }
         QuestionKind::RelateArgs { lhs, rhs } => {
-            let related = ask_args_related(ctx, terms, question.assumed, lhs, rhs)?;
-            Ok(Answer::Related(related))
+            ask_args_related(ctx, terms, question.assumed, lhs, rhs)
         }
-        QuestionKind::Key { params, ty } => {
-            let key = ask_key(&ctx.interner, terms, params, ty)?;
-            Ok(Answer::Key(key))
-        }
+        QuestionKind::Key { params, ty } => ask_key(&ctx.interner, terms, params, ty),
         QuestionKind::Elaborate {
             clauses,
             only_self,
@@ -373,32 +403,21 @@ fn ask<I: SizedKeys>(ctx: &mut RefCtxt<I>, terms: &Ready<I>, question: &Question
                 limit: told(limit),
                 pulls: told(pulls),
             };
-            let all = ask_elaborated(ctx, terms, clauses, &manner)?;
-            Ok(Answer::Pulls(all))
+            ask_elaborated(ctx, terms, clauses, &manner)
         }
-        QuestionKind::Supertraits { clause, limit } => {
-            let all = ask_supertraits(ctx, terms, clause, limit)?;
-            Ok(Answer::Pulls(all))
-        }
-        QuestionKind::SupertraitIds(item) => {
-            let all = ask_supertrait_ids(&ctx.interner, terms, item)?;
-            Ok(Answer::Pulls(all))
-        }
+        QuestionKind::Supertraits { clause, limit } => ask_supertraits(ctx, terms, clause, limit),
+        QuestionKind::SupertraitIds(item) => ask_supertrait_ids(&ctx.interner, terms, item),
         QuestionKind::Overlap { left, right } => {
-            let told = ask_impls_overlap(ctx, terms, question.assumed, left, right)?;
-            Ok(Answer::Overlap(told.0, told.1))
+            ask_impls_overlap(ctx, terms, question.assumed, left, right)
         }
-        QuestionKind::Methods { methods, of } => {
-            let names = ask_methods(ctx, terms, methods, of)?;
-            Ok(Answer::Methods(names))
+        QuestionKind::Methods { methods, of } => ask_methods(ctx, terms, methods, of),
+        QuestionKind::Prove { goal, impls, depth } => {
+            ask_proved(ctx, terms, question.assumed, goal, impls, depth)
         }
-        QuestionKind::Solve { longer, shorter } => {
-            let solved = ask_regions(ctx, terms, longer, shorter)?;
-            Ok(Answer::Solved(solved))
-        }
+        QuestionKind::Solve { longer, shorter } => ask_regions(ctx, terms, longer, shorter),
         QuestionKind::One(first, second) => {
-            let one = ask_one(ctx, first, second)?;
-            Ok(Answer::Is(one))
+            let one = ask_one(ctx, first, second);
+            whether(&ctx.interner, one)
         }
         QuestionKind::Binding(variable) => {
             let bound = ask_binding(ctx, variable)?;
@@ -418,6 +437,7 @@ fn stated_for<'a, I: Interner>(terms: &Ready<'a, I>, question: &Question) -> &'a
 fn ask_in<I: SizedKeys>(ctx: &mut RefCtxt<I>, terms: &Ready<I>, question: &Question) -> Outcome<I>
     requires lawful { IsLawful (I.meaning ctx.old.interner) ctx.old.inner }
     requires ready { AllReady (I.meaning ctx.old.interner) terms.now }
+    requires fit { AllFit (I.meaning ctx.old.interner) terms.now }
     ensures lawful { IsLawful (I.meaning ctx.new.interner) ctx.new.inner }
     ensures grown { Extends (I.meaning ctx.old.interner) (I.meaning ctx.new.interner) }
     ensures known { let m = I.meaning ctx.new.interner in
@@ -437,6 +457,7 @@ fn ask_often<I: SizedKeys>(
 ) -> (RefCtxt<I>, Outcome<I>)
     requires lawful { IsLawful (I.meaning ctx.interner) ctx.inner }
     requires ready { AllReady (I.meaning ctx.interner) terms.now }
+    requires fit { AllFit (I.meaning ctx.interner) terms.now }
     ensures lawful { IsLawful (I.meaning result.0.interner) result.0.inner }
     ensures grown { Extends (I.meaning ctx.interner) (I.meaning result.0.interner) }
     ensures known { let m = I.meaning result.0.interner in
@@ -461,6 +482,7 @@ pub(super) fn ask_unless<I: SizedKeys>(
 ) -> (RefCtxt<I>, Outcome<I>)
     requires lawful { IsLawful (I.meaning ctx.interner) ctx.inner }
     requires ready { AllReady (I.meaning ctx.interner) terms.now }
+    requires fit { AllFit (I.meaning ctx.interner) terms.now }
     ensures lawful { IsLawful (I.meaning result.0.interner) result.0.inner }
     ensures grown { Extends (I.meaning ctx.interner) (I.meaning result.0.interner) }
     ensures known { let m = I.meaning result.0.interner in

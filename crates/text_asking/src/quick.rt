@@ -1,12 +1,12 @@
 //! Quick tests that are asked, and keys that are written.
-ghost use Rattle.std.specs.Prelude.{IsTrue};
+ghost use Rattle.std.specs.Prelude.{IsTrue, IfOk};
 ghost use Rattle.relation_terms.specs.Trees.{known};
 ghost use Rattle.relation_terms.specs.Meaning.{Extends};
 ghost use Rattle.variable_tables.specs.Tables.{IsLawful};
-ghost use Rattle.text_asking.specs.Asking.{AllReady};
+ghost use Rattle.text_asking.specs.Asking.{AllReady, KnowsAnswer, KnowsRelated};
 
 use crate::lists::args_of;
-use crate::question::{Ready, Unasked, type_of};
+use crate::question::{Answer, Outcome, Ready, Unasked, type_of};
 use relation_reference::context::RefCtxt;
 use relation_terms::terms::{Interner, ItemOf, Mutability, Ty};
 use relation_tools::fast_reject::{DeepRejectCtxt, SimplifiedType, TreatParams, simplify_type};
@@ -46,12 +46,8 @@ pub(super) fn ask_may_unify<I: Interner>(
 ) -> Result<bool, Unasked>
     requires { AllReady (I.meaning cx.now) terms.now }
 {
-    let Some((lhs, _)) = type_of(terms, lhs) else {
-        return Err(Unasked::Memory);
-    };
-    let Some((rhs, _)) = type_of(terms, rhs) else {
-        return Err(Unasked::Memory);
-    };
+    let lhs = type_of(terms, lhs)?;
+    let rhs = type_of(terms, rhs)?;
     Ok(match params {
         SideParams::RigidRigid => {
             let test = DeepRejectCtxt::<I, false, false>::relate_rigid_rigid(cx);
@@ -82,8 +78,8 @@ pub(super) fn ask_args_may_unify<I: Interner>(
     ensures lawful { IsLawful (I.meaning ctx.new.interner) ctx.new.inner }
     ensures grown { Extends (I.meaning ctx.old.interner) (I.meaning ctx.new.interner) }
 {
-    let (lhs, _) = args_of(ctx, terms, lhs)?;
-    let (rhs, _) = args_of(ctx, terms, rhs)?;
+    let lhs = args_of(ctx, terms, lhs)?;
+    let rhs = args_of(ctx, terms, rhs)?;
     let cx = &ctx.interner;
     Ok(match params {
         SideParams::RigidRigid => {
@@ -107,17 +103,17 @@ pub(super) fn ask_key<I: Interner>(
     terms: &Ready<I>,
     params: KeyParams,
     number: usize,
-) -> Result<KeyOf<I>, Unasked>
+) -> Outcome<I>
     requires { AllReady (I.meaning cx.now) terms.now }
+    ensures { let m = I.meaning cx.now in
+        IfOk result (KnowsAnswer m (KnowsRelated m)) }
 {
-    let Some((ty, _)) = type_of(terms, number) else {
-        return Err(Unasked::Memory);
-    };
+    let ty = type_of(terms, number)?;
     let treat_params = match params {
         KeyParams::Infer => TreatParams::InstantiateWithInfer,
         KeyParams::Rigid => TreatParams::AsRigid,
     };
-    Ok(simplify_type(cx, &ty, treat_params))
+    Ok(Answer::Key(simplify_type(cx, &ty, treat_params)))
 }
 
 // The name of a key.

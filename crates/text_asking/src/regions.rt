@@ -2,12 +2,11 @@
 ghost use Rattle.std.specs.Prelude.{IfOk};
 ghost use Rattle.relation_terms.specs.Meaning.{Extends};
 ghost use Rattle.variable_tables.specs.Tables.{IsLawful};
-ghost use Rattle.text_users.specs.Solved.{KnowsSolved};
-ghost use Rattle.text_asking.specs.Asking.{AllReady};
+ghost use Rattle.text_asking.specs.Asking.{AllReady, KnowsAnswer, KnowsRelated};
 
 use crate::context::NotAsked;
 use crate::outliving::assumptions_of;
-use crate::question::{Ready, Unasked, terms_of};
+use crate::question::{Answer, Outcome, Ready, Unasked, terms_of};
 use relation_reference::context::RefCtxt;
 use relation_regions::Solved;
 use relation_terms::terms::Interner;
@@ -20,12 +19,13 @@ pub(super) fn ask_regions<I: Interner>(
     terms: &Ready<I>,
     longer: Parts,
     shorter: Parts,
-) -> Result<Solved<I::Key>, Unasked>
+) -> Outcome<I>
     requires lawful { IsLawful (I.meaning ctx.old.interner) ctx.old.inner }
     requires ready { AllReady (I.meaning ctx.old.interner) terms.now }
     ensures lawful { IsLawful (I.meaning ctx.new.interner) ctx.new.inner }
     ensures grown { Extends (I.meaning ctx.old.interner) (I.meaning ctx.new.interner) }
-    ensures known { IfOk result (KnowsSolved (I.meaning ctx.new.interner)) }
+    ensures known { let m = I.meaning ctx.new.interner in
+        IfOk result (KnowsAnswer m (KnowsRelated m)) }
 {
     let alloc = ctx.interner.alloc();
     let longer = terms_of(alloc, terms, longer)?;
@@ -34,7 +34,7 @@ pub(super) fn ask_regions<I: Interner>(
         return Err(Unasked::Memory);
     };
     match ask_solved(ctx, &stated) {
-        Ok(solved) => Ok(solved),
+        Ok(solved) => Ok(Answer::Solved(solved)),
         Err(NotSolved::Memory) => Err(Unasked::Memory),
         Err(NotSolved::NoFact) => Err(Unasked::NotAsked(NotAsked::Facts)),
     }

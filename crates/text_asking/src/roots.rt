@@ -1,10 +1,9 @@
 //! Variables that are asked about: whether two are one, and what one is bound to.
-ghost use Rattle.std.specs.Prelude.{◌≡◌, ◌↔◌, IsTrue, IfOk, IfSome, OnOk};
+ghost use Rattle.std.specs.Prelude.{◌≡◌, ◌↔◌, IsTrue, IfOk, IfSome};
 ghost use Rattle.relation_terms.specs.Trees.{known};
 ghost use Rattle.relation_terms.specs.Meaning.{Extends, arg_tree};
 ghost use Rattle.variable_tables.specs.Tables.{IsLawful};
 ghost use Rattle.variable_tables.specs.Variables.{root_at, value_at};
-ghost use Rattle.text_asking.specs.Asking.{HasNamed};
 ghost use Rattle.text_asking.specs.Roots.{AreOneVariable, bound_by, class_binding, class_root};
 
 use crate::context::have_variable;

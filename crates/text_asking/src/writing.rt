@@ -10,9 +10,9 @@ use crate::coherence::{write_methods, write_overlap};
 use crate::context::write_not_asked;
 use crate::counts::write_counted;
 use crate::elaborating::write_lowered;
-use crate::growth::Bounded;
 use crate::outliving::{write_assumptions, write_components};
 use crate::printing::write_answer;
+use crate::proving::write_proved;
 use crate::question::{Answer, AnswerOf, Outcome, Unasked};
 use crate::quick::write_key;
 use crate::visiting::write_met;
@@ -21,7 +21,9 @@ use relation_reference::context::RefCtxt;
 use relation_semantics::infer_ctxt::InferCtxtLike;
 use relation_terms::terms::{GenericArg, Interner};
 use std::fmt::{self, Write};
+use text_depths::Bounded;
 use text_elaboration::pulls::write_pulls;
+use text_proving::proving::write_unasked;
 use text_terms::printing::{TextsOf, write_arg};
 use text_users::overlapping::write_why_not;
 use text_users::write_solved;
@@ -104,6 +106,10 @@ fn write_given<I: Interner, W: Write>(
             write_left(ctx, asked, out)
         }
         Answer::Methods(names) => write_methods::<I, W>(texts, names, out),
+        Answer::Proved(told) => {
+            write_proved(ctx, texts, told, out)?;
+            write_left(ctx, asked, out)
+        }
     }
 }
 
@@ -121,8 +127,9 @@ fn write_outcome<I: Interner, W: Write>(
 {
     match outcome {
         Err(Unasked::Memory) => out.write_str("memory"),
-        Err(Unasked::NotAsked(why)) => write_not_asked(*why, out),
+        Err(Unasked::NotAsked(why)) => write_not_asked(*why, ctx.inner.universe.0, out),
         Err(Unasked::Impls(why)) => write_why_not(*why, out),
+        Err(Unasked::Proof(why)) => write_unasked(*why, out),
         Ok(answer) => write_given(ctx, texts, asked, answer, out),
     }
 }

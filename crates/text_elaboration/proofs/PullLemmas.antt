@@ -60,10 +60,6 @@ module _ {I Key Id Name : Type 0} (meaning : I → Meaning Key Id Name) where
   pull_keeps s t (Some (Ok c)) h = ((h.2).reference, (h.2).grown, (h.2).limit)
   pull_keeps s t (Some (Err f)) h = ((h.1).reference, (h.1).grown, (h.1).limit)
 
-  pub pull_knows : (s t : State) (c : ClauseKey Key) → PullsClause s (Some (Ok c)) t →
-      KnowsPulled (meaning t.cx) (pulled.Clause c)
-  pull_knows s t c h = knows_clause (h.2).grown c h.3
-
   -- The same of a search for a trait clause.
   abbrev FindsBound : State → Option (Result (Binder Key (TraitRef Key Id)) ElabFault) → State → Type 0
   FindsBound s r t = FindsNext meaning s r t

@@ -122,9 +122,6 @@ module _ (x y : RefInterner) (n : ℕ) where
     bounds = kept bounds_of [] said_sized (λ i. refl) e d;
   }
 
-pub puts_none : (x : RefInterner) (n : ℕ) → Puts x x n None None None
-puts_none x n d g = record { generics = refl; supers = refl; implied = refl; bounds = refl }
-
 pub puts_on : (x y z : RefInterner) (n : ℕ) (s i : Option (List (ClauseKey NodeKey))) → Puts x y n s None None →
     Puts y z n None i None → Puts x z n s i None
 puts_on x y z n s i p q d g =

@@ -291,18 +291,6 @@ none_yet x y items names p k d g =
     let s = k d g in
     record { generics = s.generics; supers = s.supers; implied = s.implied; bounds = s.bounds }
 
-pub still_none : (x y z : RefInterner) (items names : List ℕ) (p : Program) → KeepsStatements x y →
-    Extends (meaning_in y) (meaning_in z) → (d : ℕ) → 0 < (meaning_in x).generics d →
-    StatesLast (meaning_in x) (meaning_in z) items names p [] d
-still_none x y z items names p k e d g =
-    let s = k d g in
-    record {
-      generics = ap (λ f. f d) e.generics ∙ s.generics;
-      supers = ap (λ t. t.super_predicates d) e.tables ∙ s.supers;
-      implied = ap (λ t. t.implied_predicates d) e.tables ∙ s.implied;
-      bounds = ap (λ t. t.const_bounds d) e.tables ∙ s.bounds;
-    }
-
 pub stay_none : {Key Id Name : Type 0} (m : Meaning Key Id Name) → TermsStay m m
 stay_none m = record {
   arg = λ k h. refl;

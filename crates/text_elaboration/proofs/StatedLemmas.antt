@@ -1,14 +1,13 @@
 -- What a program's traits state, as it is built, and what is known while an interner grows.
 use Rattle.std.proofs.Common.{◌≡◌, ◌↔◌, ℕ, IsTrue, Bool, false, nat_lt, List, [], ◌∷◌, ◌++◌, map}
-use Rattle.std.proofs.Common.{Option, Some, None, sym, ◌∙◌, subst, arith}
+use Rattle.std.proofs.Common.{Option, sym, ◌∙◌, subst, arith}
 use Rattle.std.proofs.lemmas.Bool.{ltb-false}
 use Rattle.std.specs.List.{All}
 use Rattle.std.proofs.lemmas.List.{map-append}
 use Rattle.std.proofs.lemmas.List.Elements.{All-weaker, All-push}
-use Rattle.relation_terms.specs.Heads.{BoundKind, Head}
-use Rattle.relation_terms.specs.Trees.{Tree, node, nil, cons, known}
+use Rattle.relation_terms.specs.Trees.{Tree, known}
 use Rattle.relation_terms.specs.Flags.{outer_exclusive_binder}
-use Rattle.relation_terms.specs.Meaning.{Meaning, Extends, under, arg_tree}
+use Rattle.relation_terms.specs.Meaning.{Meaning, Extends, arg_tree}
 use Rattle.relation_terms.specs.Owned.{BindsWithin, IsOwn, IsStated, IsStatedBound, bound_tree}
 use Rattle.relation_terms.specs.Predicates.{trait_ref_tree}
 use Rattle.relation_terms.specs.declared.terms.binder.Binder.{Binder}
@@ -32,12 +31,6 @@ none_needed n e = let h = ltb-false 0 n e in omega (arith, h)
 pub own_if : (t : Tree) (b e : Bool) → (IsTrue b ↔ BindsWithin t) → e ≡ bound_var_escapes t → IsTrue b → e ≡ false →
     IsOwn t
 own_if t b e w f h k = (w.0 h, none_needed (outer_exclusive_binder t) (sym (escapes_beyond 0 t) ∙ sym f ∙ k))
-
--- What a clause of one part binds itself, the part does under the same binder.
-pub part_own : (o : Option (List BoundKind)) (h : Head) (t : Tree) → IsOwn (under o (node h (cons t nil))) →
-    IsOwn (under o t)
-part_own None h t w = w
-part_own (Some ks) h t w = ((w.0).0, let closed = w.1 in omega (arith, closed))
 
 own_stays : (t u : Tree) → (IsTrue (known t) → u ≡ t) → IsTrue (known t) × IsOwn t → IsTrue (known u) × IsOwn u
 own_stays t u e h = subst (λ v. IsTrue (known v) × IsOwn v) (sym (e h.0)) h
@@ -68,12 +61,6 @@ module _ {Key Id Name : Type 0} {m n : Meaning Key Id Name} (s : SameTerms m n) 
 
   pub same_keys : (keys : List (Option (GenericArgKind Key))) → AreKnown m keys → AreKnown n keys
   same_keys keys h = λ k key is. subst (λ t. IsTrue (known t)) (sym (same_arg key)) (h k key is)
-
-  same_stated : (k : ClauseKey Key) → IsStated m k → IsStated n k
-  same_stated k h = subst (λ t. IsTrue (known t) × IsOwn t) (sym (s.clause k)) h
-
-  pub all_stated : (ks : List (ClauseKey Key)) → All (IsStated m) ks → All (IsStated n) ks
-  all_stated ks a = All-weaker (IsStated m) (IsStated n) same_stated ks a
 
 -- One more clause that may be stated, with its place.
 pub stated_more : {Key Id Name S : Type 0} (n : Meaning Key Id Name) (ks : List (ClauseKey Key × S)) (k : ClauseKey Key)

@@ -61,10 +61,6 @@ below_one_more (y ∷ ys) x n m f a b zero h = let p : y < n = f 0 (omega arith)
 below_one_more (y ∷ ys) x n m f a b (suc k) h =
     below_one_more ys x n m (λ i p. f (suc i) (omega (arith, p))) a b k (omega (arith, h))
 
--- more nodes
-pub below_further : (xs : List ℕ) (n m : ℕ) → EachBelow xs n → n ≤ m → EachBelow xs m
-below_further xs n m f a k h = let p = f k h in omega (arith, p, a)
-
 -- the leaves of one more node
 pub node_words_more : (ns : List Node) (n : Node) → node_words (ns ++ n ∷ []) ≡ node_words ns ++ kind_words n.kind n.start n.end
 node_words_more ns n =

@@ -65,10 +65,6 @@ alike_rows rs d n k j o p bk bj w a b h =
     let r = alike_lists n xs ys o p (a.1 (omega arith, there)) (only_now n xs o (got n xs o a.0)) (got n ys p b) h in
     (ap (take n) (sym ek) ∙ r.0 ∙ ap (take n) ej, subst (λ z. n ≤ length z) ej r.1)
 
--- rows are written alike through a third
-pub alike_through : (rs : List Shape) (n k j i : ℕ) → AreAlike rs n k j → AreAlike rs n j i → AreAlike rs n k i
-alike_through rs n k j i a b = (a.0 ∙ b.0, b.1)
-
 -- what was read so far is written as the first pieces of that row
 abbrev pub IsSoFar : List Word → List Shape → ℕ → ℕ → ℕ → ℕ → Type 0
 IsSoFar ws rs row at from to =

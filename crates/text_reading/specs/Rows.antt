@@ -37,6 +37,7 @@ rows_of sort.Limit = rows_named predicates.LIMIT
 rows_of sort.Pulls = rows_named predicates.PULLS
 rows_of sort.Predicate = rows_named predicates.PREDICATE
 rows_of sort.ImplHeader = rows_named impls.IMPL_HEADER
+rows_of sort.Given = rows_named impls.GIVEN
 rows_of sort.Generics = rows_named impls.GENERICS
 rows_of sort.GenericParam = rows_named impls.GENERIC_PARAM
 rows_of sort.Method = rows_named impls.METHOD

@@ -7,20 +7,16 @@ mod error;
 mod impls;
 mod namer;
 mod objects;
-mod outlives;
 mod plain;
 mod predicates;
 mod program;
 mod questions;
-mod quick;
-mod roots;
 mod statements;
 mod terms;
-mod walks;
 
 pub use error::{Missing, NameError, Wrong, write_name_error};
 pub use program::{
-    Clause, Declared, Item, Method, Mode, ParamSort, Parts, Program, Put, Question, QuestionKind,
-    Says, Setup, Sort, Stated, Term, VariableId, VariableKind, Variables,
+    Clause, Declared, Impl, Item, Method, Mode, ParamSort, Parts, Program, Put, Question,
+    QuestionKind, Says, Setup, Sort, Stated, Term, VariableId, VariableKind, Variables,
 };
 pub use statements::{LAST_UNIVERSE, MOST_VARIABLES, look_up};

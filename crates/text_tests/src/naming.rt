@@ -41,7 +41,7 @@ fn said(alloc: Global, text: &str) -> Result<String, Fail> {
 const SAID: [(&str, &str); 4] = [
     (
         "struct Vec<+T>; param T, 'a; Vec<?0> <: Vec<&'a u8>; then ?0 == T;",
-        "1 2 27 2 2; 0 true Analysis; 0 true Analysis",
+        "1 2 27 4 2; 0 true Analysis; 0 true Analysis",
     ),
     (
         "struct C<const N>; param const N; repeat 3 C<!1N> == C<{1u8, N}>;",

@@ -1,5 +1,5 @@
 //! Runs of the program of rows: their statuses and what they write, also where a write fails.
-use relation_rows::rows::Row;
+use relation_rows::rows::{Row, all_rows};
 use relation_rows::running::{print, run};
 use std::alloc::{AllocError, Global};
 use std::io;
@@ -30,7 +30,13 @@ fn runs_print_their_rows(rt: HostRuntime) -> Result<(), Fail> {
         let words = texts(rt.alloc(), words)?;
         let mut out = Vec::new(rt.alloc());
         let mut err = Vec::new(rt.alloc());
-        let answered = run(rt.alloc(), words.as_slice(), &mut out, &mut err);
+        let answered = run(
+            rt.alloc(),
+            &all_rows(rt.alloc())?,
+            words.as_slice(),
+            &mut out,
+            &mut err,
+        );
         let written = (out.as_slice(), err.as_slice());
         assert_eq!(rt; answered, *status);
         assert!(rt; written == (printed.as_bytes(), complaint.as_bytes()));
@@ -61,7 +67,13 @@ fn rows_are_named(rt: HostRuntime) -> Result<(), Fail> {
         let mut out = Vec::new(rt.alloc());
         let mut err = Vec::new(rt.alloc());
         assert_eq!(rt;
-            run(rt.alloc(), words.as_slice(), &mut out, &mut err),
+            run(
+                rt.alloc(),
+                &all_rows(rt.alloc())?,
+                words.as_slice(),
+                &mut out,
+                &mut err
+            ),
             status
         );
         assert!(rt; out.is_empty() != err.is_empty());
@@ -133,7 +145,8 @@ fn a_failed_write_is_status_1(rt: HostRuntime) -> Result<(), Fail> {
         let bytes = Vec::new(rt.alloc());
         let mut out = Full { bytes, room };
         let mut err = Vec::new(rt.alloc());
-        assert_eq!(rt; run(rt.alloc(), &[], &mut out, &mut err), 1, "at {room}");
+        let answered = run(rt.alloc(), &all_rows(rt.alloc())?, &[], &mut out, &mut err);
+        assert_eq!(rt; answered, 1, "at {room}");
         assert!(rt; out.bytes.len() == room && err.starts_with(b"standard output: "));
     }
     Ok(())
@@ -146,6 +159,15 @@ fn a_failed_complaint_is_status_2(rt: HostRuntime) -> Result<(), Fail> {
     let bytes = Vec::new(rt.alloc());
     let mut err = Full { bytes, room: 0 };
     let words = texts(rt.alloc(), &["r99"])?;
-    assert_eq!(rt; run(rt.alloc(), words.as_slice(), &mut out, &mut err), 2);
+    assert_eq!(rt;
+        run(
+            rt.alloc(),
+            &all_rows(rt.alloc())?,
+            words.as_slice(),
+            &mut out,
+            &mut err
+        ),
+        2
+    );
     Ok(())
 }

@@ -44,7 +44,8 @@ fn written_var<I: Interner>(cx: &I, inner: &InferCtxtInner<I::Key>, ty: &Ty<I>) 
 }
 
 // The type that a type variable's class is bound to, or else the root of its class. Of another type variable that is
-// read in turn.
+// read in turn. It stands apart from reading a type, which mostly is no variable.
+#[inline(never)]
 pub(crate) fn ty_of_var<I: Interner>(cx: &I, inner: &InferCtxtInner<I::Key>, var: TyVid) -> Ty<I>
     requires lawful { IsLawful (I.meaning cx.now) inner.now }
     requires made { var.0 < length inner.now.types.items }

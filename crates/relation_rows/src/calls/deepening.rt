@@ -1,39 +1,40 @@
 //! What is answered of two types under 1,000 slices, which no row writes out.
 
-use crate::running::{RowFault, asked};
+use crate::calls::write_asked;
+use crate::running::RowFault;
 use std::alloc::Global;
 use std::fmt::{self, Write};
 
 // Under how many slices the types stand.
 const SLICES: usize = 1000;
 
-// Writes a type under slices.
-fn write_sliced<W: Write>(ty: &str, out: &mut W) -> fmt::Result {
+// Writes a text as often as the types have slices.
+fn write_often<W: Write>(text: &str, out: &mut W) -> fmt::Result {
     for _ in 0..SLICES {
-        out.write_str("[")?;
-    }
-    out.write_str(ty)?;
-    for _ in 0..SLICES {
-        out.write_str("]")?;
+        out.write_str(text)?;
     }
     Ok(())
 }
 
-// Writes `bool` and `char` under slices, with a text between and one behind.
-fn write_pair<W: Write>(between: &str, behind: &str, out: &mut W) -> fmt::Result {
-    write_sliced("bool", out)?;
-    out.write_str(between)?;
-    write_sliced("char", out)?;
-    out.write_str(behind)
+// Writes two questions about `bool` and `char` under slices: whether they may unify, and whether they are related.
+fn write_questions<W: Write>(out: &mut W) -> fmt::Result {
+    for (before, ty) in [
+        ("may unify[rigid, rigid] ", "bool"),
+        (", ", "char"),
+        ("; ", "bool"),
+        (" == ", "char"),
+    ] {
+        out.write_str(before)?;
+        write_often("[", out)?;
+        out.write_str(ty)?;
+        write_often("]", out)?;
+    }
+    out.write_str(";")
 }
 
 /// Writes whether `bool` and `char` under 1,000 slices may unify, and whether they are related.
 pub(super) fn write_deep<W: Write>(alloc: Global, out: &mut W) -> Result<(), RowFault> {
     let mut questions = String::new(alloc);
-    questions.write_str("may unify[rigid, rigid] ")?;
-    write_pair(", ", "; ", &mut questions)?;
-    write_pair(" == ", ";", &mut questions)?;
-    let text = asked(alloc, questions.as_str())?;
-    out.write_str(text.as_str())?;
-    Ok(())
+    write_questions(&mut questions)?;
+    write_asked(alloc, questions.as_str(), out)
 }

@@ -1,8 +1,10 @@
 //! What relating two predicates of a trait answers, and two references of traits.
 ghost use Rattle.std.specs.Prelude.{◌≡◌, IfOk};
 ghost use Rattle.relation_terms.specs.Meaning.{Extends};
+ghost use Rattle.variable_tables.specs.Tables.{IsLawful};
 ghost use Rattle.relation_rows.specs.Terms.{byte_alone};
 
+use crate::calls::Differing;
 use crate::running::RowFault;
 use relation_reference::context::RefCtxt;
 use relation_semantics::infer_ctxt::TypingMode;
@@ -32,14 +34,15 @@ fn make_byte_ref<I: Interner>(
     Ok(TraitRef { def_id, args })
 }
 
-/// Relates, at invariance, that `u8` implements a trait and that it doesn't, and writes the answer.
-pub(super) fn write_polarities<I: Interner + Drop, W: Write>(
-    cx: I,
+// Relates, at invariance, that `u8` implements a trait and that it doesn't, and writes the answer.
+fn write_polarities<I: Interner, W: Write>(
+    ctx: &mut RefCtxt<I>,
     texts: &TextsOf<I>,
     def_id: TraitId<I::Id>,
     out: &mut W,
-) -> Result<(), RowFault> {
-    let mut ctx = RefCtxt::new(cx, TypingMode::PostAnalysis, true, BUDGET)?;
+) -> Result<(), RowFault>
+    requires { IsLawful (I.meaning ctx.old.interner) ctx.old.inner }
+{
     let param_env = ctx.interner.empty_param_env()?;
     let trait_ref = make_byte_ref(&mut ctx.interner, def_id)?;
     let polarity = PredicatePolarity::Positive;
@@ -54,18 +57,19 @@ pub(super) fn write_polarities<I: Interner + Drop, W: Write>(
     };
     let span = ctx.interner.dummy_span();
     let answer = ctx.relate(param_env, lhs, Variance::Invariant, rhs, span);
-    write_answer(&ctx, texts, &answer, out)?;
+    write_answer(ctx, texts, &answer, out)?;
     Ok(())
 }
 
-/// The same of that it implements one trait and that it implements another.
-pub(super) fn write_traits<I: Interner + Drop, W: Write>(
-    cx: I,
+// The same of that it implements one trait and that it implements another.
+fn write_traits<I: Interner, W: Write>(
+    ctx: &mut RefCtxt<I>,
     texts: &TextsOf<I>,
     def_ids: (TraitId<I::Id>, TraitId<I::Id>),
     out: &mut W,
-) -> Result<(), RowFault> {
-    let mut ctx = RefCtxt::new(cx, TypingMode::PostAnalysis, true, BUDGET)?;
+) -> Result<(), RowFault>
+    requires { IsLawful (I.meaning ctx.old.interner) ctx.old.inner }
+{
     let param_env = ctx.interner.empty_param_env()?;
     let lhs = make_byte_ref(&mut ctx.interner, def_ids.0)?;
     let rhs = TraitRef {
@@ -74,6 +78,34 @@ pub(super) fn write_traits<I: Interner + Drop, W: Write>(
     };
     let span = ctx.interner.dummy_span();
     let answer = ctx.relate(param_env, lhs, Variance::Invariant, rhs, span);
-    write_answer(&ctx, texts, &answer, out)?;
+    write_answer(ctx, texts, &answer, out)?;
     Ok(())
+}
+
+// Relates predicates of the first trait, or references of both, and writes the answer.
+fn write_differing<I: Interner, W: Write>(
+    ctx: &mut RefCtxt<I>,
+    texts: &TextsOf<I>,
+    def_ids: (TraitId<I::Id>, TraitId<I::Id>),
+    differing: Differing,
+    out: &mut W,
+) -> Result<(), RowFault>
+    requires { IsLawful (I.meaning ctx.old.interner) ctx.old.inner }
+{
+    match differing {
+        Differing::Polarity => write_polarities(ctx, texts, def_ids.0, out),
+        Differing::Trait => write_traits(ctx, texts, def_ids, out),
+    }
+}
+
+/// The same in a new context over an interner.
+pub(super) fn relate_new<I: Interner + Drop, W: Write>(
+    cx: I,
+    texts: &TextsOf<I>,
+    def_ids: (TraitId<I::Id>, TraitId<I::Id>),
+    differing: Differing,
+    out: &mut W,
+) -> Result<(), RowFault> {
+    let mut ctx = RefCtxt::new(cx, TypingMode::PostAnalysis, true, BUDGET)?;
+    write_differing(&mut ctx, texts, def_ids, differing, out)
 }

@@ -1,7 +1,7 @@
 //! What calls answer is written, over any interner.
-ghost use Rattle.std.specs.Prelude.{◌≡◌, IsTrue, IsSome};
+ghost use Rattle.std.specs.Prelude.{IsTrue, IsSome};
 ghost use Rattle.relation_terms.specs.Trees.{known, list_tree};
-ghost use Rattle.relation_terms.specs.Meaning.{Extends, arg_tree};
+ghost use Rattle.relation_terms.specs.Meaning.{arg_tree};
 ghost use Rattle.relation_terms.specs.Predicates.{item_parent};
 
 use crate::calls::making::{
@@ -9,83 +9,34 @@ use crate::calls::making::{
 };
 use crate::running::RowFault;
 use relation_terms::predicate::{
-    AliasTerm, AliasTermKind, OutlivesPredicate, RegionConstraint, RegionEqPredicate, TraitRef,
+    AliasTerm, AliasTermKind, OutlivesPredicate, RegionConstraint, RegionEqPredicate,
 };
 use relation_terms::terms::{
     DefId, GenericArg, GenericArgKind, InherentAssocTyId, Interner, Region, TraitAssocTyId,
     TraitId, TyKind,
 };
 use std::fmt::{self, Write};
+use text_clauses::printing::write_trait_ref;
 use text_terms::printing::{TextsOf, write_arg, write_item_name, write_region};
 
-// Writes arguments with `, ` between.
+// Writes arguments between two signs, with `, ` between; nothing where there are none.
 fn write_args<I: Interner, W: Write>(
     cx: &I,
     texts: &TextsOf<I>,
+    open: &str,
     args: &[GenericArg<I>],
+    close: &str,
     out: &mut W,
 ) -> fmt::Result
     requires { IsTrue (known (list_tree (arg_tree (I.meaning cx.now)) args.now)) }
 {
     let mut any = false;
     for term in args {
-        if any {
-            out.write_str(", ")?;
-        }
+        out.write_str(if any { ", " } else { open })?;
         write_arg(cx, texts, term, out)?;
         any = true;
     }
-    Ok(())
-}
-
-// Writes a list of arguments.
-fn write_list<I: Interner, W: Write>(
-    cx: &I,
-    texts: &TextsOf<I>,
-    args: &[GenericArg<I>],
-    out: &mut W,
-) -> fmt::Result
-    requires { IsTrue (known (list_tree (arg_tree (I.meaning cx.now)) args.now)) }
-{
-    out.write_str("[")?;
-    write_args(cx, texts, args, out)?;
-    out.write_str("]")
-}
-
-// Writes a trait over the arguments behind the type that implements it.
-fn write_over<I: Interner, W: Write>(
-    cx: &I,
-    texts: &TextsOf<I>,
-    def_id: TraitId<I::Id>,
-    args: &[GenericArg<I>],
-    out: &mut W,
-) -> fmt::Result
-    requires { IsTrue (known (list_tree (arg_tree (I.meaning cx.now)) args.now)) }
-{
-    write_item_name::<I, W>(texts, &DefId(def_id.0), out)?;
-    if args.is_empty() {
-        return Ok(());
-    }
-    out.write_str("<")?;
-    write_args(cx, texts, args, out)?;
-    out.write_str(">")
-}
-
-// Writes that a type implements a trait.
-fn write_trait_ref<I: Interner, W: Write>(
-    cx: &I,
-    texts: &TextsOf<I>,
-    trait_ref: &TraitRef<I::Key, I::Id>,
-    out: &mut W,
-) -> fmt::Result
-    requires { IsTrue (known ((I.meaning cx.now).args (trait_ref.now).args)) }
-{
-    let Some((ty, args)) = cx.args(&trait_ref.args).split_first() else {
-        return Ok(());
-    };
-    write_arg(cx, texts, ty, out)?;
-    out.write_str(": ")?;
-    write_over(cx, texts, trait_ref.def_id, args, out)
+    if any { out.write_str(close) } else { Ok(()) }
 }
 
 // Writes the arguments of an inherent alias over two parameters, rebased onto `[u8, bool]`.
@@ -96,16 +47,14 @@ pub(super) fn write_rebased<I: Interner, W: Write>(
     id: I::Id,
     names: (I::Name, I::Name),
     out: &mut W,
-) -> Result<(), RowFault>
-    ensures { Extends (I.meaning cx.old) (I.meaning cx.new) }
-{
+) -> Result<(), RowFault> {
     let args = make_params(cx, names.0, names.1)?;
     let impl_args = make_plain(cx)?;
     let def_id = InherentAssocTyId(id);
     let kind = AliasTermKind::InherentTy { def_id };
     let alias = AliasTerm { kind, args };
     let rebased = alias.rebase_inherent_args_onto_impl(&impl_args, cx)?;
-    write_list(cx, texts, cx.args(&rebased), out)?;
+    write_args(cx, texts, "[", cx.args(&rebased), "]", out)?;
     Ok(())
 }
 
@@ -127,7 +76,7 @@ pub(super) fn write_projection<I: Interner, W: Write>(
     let trait_ref = alias.trait_ref(cx)?;
     write_trait_ref(cx, texts, &trait_ref, out)?;
     out.write_str(" | ")?;
-    write_list(cx, texts, alias.own_args(cx), out)?;
+    write_args(cx, texts, "[", alias.own_args(cx), "]", out)?;
     Ok(())
 }
 
@@ -141,7 +90,8 @@ pub(super) fn write_object<I: Interner, W: Write>(
     out: &mut W,
 ) -> Result<(), RowFault> {
     let object = make_object(cx, def_id, name)?;
-    write_over(cx, texts, object.def_id, cx.args(&object.args), out)?;
+    write_item_name::<I, W>(texts, &DefId(def_id.0), out)?;
+    write_args(cx, texts, "<", cx.args(&object.args), ">", out)?;
     out.write_str(" | ")?;
     let ty = cx.mk_ty(TyKind::Bool)?;
     let trait_ref = object.with_self_ty(cx, ty)?;

@@ -1,24 +1,29 @@
 use Rattle.std.proofs.Common.{sym, subst}
-use Rattle.text_asking.specs.Asking.{AreReady}
+use Rattle.text_terms.specs.Built.{AreKnown}
+use Rattle.text_asking.specs.Fits.{AreFit}
 use Rattle.text_asking.proofs.AskingLemmas.{ready_stays}
+use Rattle.text_asking.proofs.FitLemmas.{fit_stays}
 use Rattle.text_asking.proofs.ask_ready.Goals as goal
-
-pub loop-question-init : goal.loop-question-init
-loop-question-init g c = record {
-  lawful = c.in-Ok.ensures.lawful;
-  ready = ready_stays c.in-Ok.ensures.grown c.args.terms.now.built.now c.args.terms.now.needs.now c.requires;
-}
 
 pub ask_unless-left-requires-clause-ready : goal.ask_unless-left-requires-clause-ready
 ask_unless-left-requires-clause-ready g c =
-    subst (λ i. AreReady (g.I.Interner.meaning i) c.args.terms.now.built.now c.args.terms.now.needs.now)
+    subst (λ i. AreKnown (g.I.Interner.meaning i) c.args.terms.now.built.now)
     (sym c.context_for-asked.ensures.interner) c.loop-question.invariant.ready
+
+pub ask_unless-left-requires-clause-fit : goal.ask_unless-left-requires-clause-fit
+ask_unless-left-requires-clause-fit g c =
+    subst (λ i. AreFit (g.I.Interner.meaning i) c.args.terms.now.built.now c.args.terms.now.fits.now)
+    (sym c.context_for-asked.ensures.interner) c.loop-question.invariant.fit
 
 pub loop-question-preserved : goal.loop-question-preserved
 loop-question-preserved g c =
-    let was = subst (λ i. AreReady (g.I.Interner.meaning i) c.args.terms.now.built.now c.args.terms.now.needs.now)
-    (sym c.context_for-asked.ensures.interner) c.loop-question.invariant.ready in
+    let built = c.args.terms.now.built.now in
+    let fits = c.args.terms.now.fits.now in
+    let same = c.context_for-asked.ensures.interner in
+    let was = subst (λ i. AreKnown (g.I.Interner.meaning i) built) (sym same) c.loop-question.invariant.ready in
+    let fit = subst (λ i. AreFit (g.I.Interner.meaning i) built fits) (sym same) c.loop-question.invariant.fit in
     record {
       lawful = c.ask_unless-left.ensures.lawful;
-      ready = ready_stays c.ask_unless-left.ensures.grown c.args.terms.now.built.now c.args.terms.now.needs.now was;
+      ready = ready_stays c.ask_unless-left.ensures.grown built was;
+      fit = fit_stays c.ask_unless-left.ensures.grown built fits was fit;
     }

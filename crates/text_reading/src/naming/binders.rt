@@ -25,6 +25,8 @@ fn is_binder(node: &Node) -> bool {
                 | Form::Says
                 | Form::ImplHeader
                 | Form::Method
+                | Form::Impl
+                | Form::Given
         )
     )
 }

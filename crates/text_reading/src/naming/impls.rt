@@ -1,13 +1,19 @@
-//! Questions about impls and methods, of the tree's nodes.
+//! Impls, and questions about impls and methods, of the tree's nodes.
 
 use crate::naming::error::{NameError, Wrong, error_at};
 use crate::naming::namer::Namer;
-use crate::naming::program::{Clause, Method, Parts, QuestionKind, Says, Sort};
+use crate::naming::program::{Clause, Impl, Method, Parts, QuestionKind, Says};
 use crate::reading::{Claim, Node};
 use term_enums::PredicatePolarity;
 
 // What the header of an impl claims of its trait.
 const IMPLEMENTED: Claim = Claim::Trait(PredicatePolarity::Positive);
+
+/// Within which depth a goal is to follow where nothing is said of it.
+pub(super) const DEPTH: usize = 32;
+
+/// The largest depth: the program's stack holds so many goals, each asked for by the one before.
+const MOST_DEPTH: usize = 128;
 
 // The trait of a header.
 fn trait_of_header(header: &Clause) -> Option<usize> {
@@ -43,6 +49,49 @@ impl<'a> Namer<'a> {
         self.note(QuestionKind::Overlap { left, right })
     }
 
+    // An impl that later goals may follow from: what it is generic over, what it gives, and what it asks for.
+    pub fn declare_impl(
+        &mut self,
+        node: &Node,
+        generics: usize,
+        given: usize,
+        asks: &[usize],
+    ) -> Result<(), NameError> {
+        let variables = self.variables(node, generics)?;
+        let (_, given) = self.header(node, given)?;
+        let first = self.program.clauses.len();
+        self.program.clauses.push(given)?;
+        let asked = self.clauses(node, asks)?;
+        self.each_implements(node, asked)?;
+        let clauses = Parts {
+            first,
+            behind: asked.behind,
+        };
+        self.program.impls.push(Impl { variables, clauses })?;
+        Ok(())
+    }
+
+    // The depth of that leaf, if it is none too large.
+    pub fn depth(&self, node: &Node, number: usize) -> Result<usize, NameError> {
+        let depth = self.count(node, number)?;
+        if depth > MOST_DEPTH {
+            return Err(error_at(&self.node(node, number)?, Wrong::TooLarge));
+        }
+        Ok(depth)
+    }
+
+    // Whether a predicate follows from the impls so far and from what is assumed.
+    pub fn note_prove(&mut self, node: &Node, goal: usize, depth: usize) -> Result<(), NameError> {
+        let clauses = self.clauses(node, &[goal])?;
+        self.each_implements(node, clauses)?;
+        let impls = self.program.impls.len();
+        self.note(QuestionKind::Prove {
+            goal: clauses.first,
+            impls,
+            depth,
+        })
+    }
+
     // A method of a table.
     fn method(&mut self, whole: &Node, number: usize) -> Result<Method, NameError> {
         let node = self.node(whole, number)?;
@@ -50,7 +99,7 @@ impl<'a> Namer<'a> {
             return Err(error_at(&node, Wrong::NotRead));
         };
         let variables = self.variables(&node, *generics)?;
-        let ty = self.term(&node, *ty, Some(Sort::Type))?.number;
+        let ty = self.ty(&node, *ty)?;
         let name = self.node(&node, *name)?;
         let text = self.text_of(&name)?;
         let name = self.name(text)?;
@@ -72,7 +121,7 @@ impl<'a> Namer<'a> {
             self.program.methods.push(method)?;
         }
         let behind = self.program.methods.len();
-        let of = self.term(node, *ty, Some(Sort::Type))?.number;
+        let of = self.ty(node, *ty)?;
         let methods = Parts { first, behind };
         self.note(QuestionKind::Methods { methods, of })
     }

@@ -56,9 +56,10 @@ pub(super) struct Namer<'a> {
 }
 
 impl<'a> Namer<'a> {
-    // Nothing is made, and only the names of plain types and the longest region mean something.
+    // Nothing is made, and no name means anything.
     pub fn new(alloc: Global, text: &'a str, tree: &'a Tree) -> Result<Namer<'a>, NameError> {
-        let mut namer = Namer {
+        let scopes = scopes_of(alloc, tree)?;
+        Ok(Namer {
             alloc,
             text,
             tree,
@@ -66,7 +67,7 @@ impl<'a> Namer<'a> {
             associated: HashMap::new(alloc),
             names: HashMap::new(alloc),
             made: Vec::new(alloc),
-            scopes: scopes_of(alloc, tree)?,
+            scopes,
             bound: HashMap::new(alloc),
             next_index: Some(0),
             setup: Setup {
@@ -79,26 +80,17 @@ impl<'a> Namer<'a> {
                 behind: 0,
             },
             stating: None,
-            program: Program {
-                items: Vec::new(alloc),
-                names: Vec::new(alloc),
-                terms: Vec::new(alloc),
-                parts: Vec::new(alloc),
-                puts: Vec::new(alloc),
-                skips: Vec::new(alloc),
-                variables: Vec::new(alloc),
-                clauses: Vec::new(alloc),
-                methods: Vec::new(alloc),
-                stated: Vec::new(alloc),
-                sized: Vec::new(alloc),
-                questions: Vec::new(alloc),
-            },
-        };
+            program: Program::new(alloc),
+        })
+    }
+
+    // From here on the names of plain types and of the longest region mean something.
+    pub fn declare_plain(&mut self) -> Result<(), NameError> {
         for (name, sort, term) in &PLAIN {
-            let made = namer.push(*term, *sort, 1)?;
-            let _ = namer.meanings.insert(*name, Meaning::Term(made))?;
+            let made = self.push(*term, *sort, 1)?;
+            let _ = self.meanings.insert(*name, Meaning::Term(made))?;
         }
-        Ok(namer)
+        Ok(())
     }
 
     // The text of a node.

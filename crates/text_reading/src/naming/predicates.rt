@@ -196,7 +196,7 @@ impl<'a> Namer<'a> {
             return Err(error_at(node, Wrong::Count { expected, found }));
         };
         let constant = self.term(node, *constant, Some(Sort::Const))?.number;
-        let ty = self.term(node, *ty, Some(Sort::Type))?.number;
+        let ty = self.ty(node, *ty)?;
         Ok(Says::ConstArgHasType(constant, ty))
     }
 

@@ -2,7 +2,7 @@
 ghost use Rattle.std.specs.Prelude.{◌≡◌};
 
 use crate::reading::{Claim, Counted, ItemSort, KeyParams, Relation, SideParams, StatedKind};
-use std::alloc::AllocError;
+use std::alloc::{AllocError, Global};
 use term_enums::{FloatTy, FnHeader, IntTy, Mutability, UintTy, Variance};
 
 /// What a term stands for.
@@ -172,6 +172,14 @@ pub struct Stated {
     pub clauses: Parts,
 }
 
+/// An impl: what it is generic over, each as it stands right under its binder, and the predicates of a range of the
+/// program's list: what it gives, and then what it asks for.
+#[derive(Clone, Copy)]
+pub struct Impl {
+    pub variables: Parts,
+    pub clauses: Parts,
+}
+
 /// A method of a table: what the type is generic over which it is for, each as it stands right under its binder, the
 /// type, and the number of the method's name.
 #[derive(Clone, Copy)]
@@ -299,6 +307,13 @@ pub enum QuestionKind {
         longer: Parts,
         shorter: Parts,
     },
+    /// Whether the predicate of that number follows, within a depth, from so many of the program's impls and from what
+    /// is assumed.
+    Prove {
+        goal: usize,
+        impls: usize,
+        depth: usize,
+    },
     /// Whether two variables are one.
     One(VariableId, VariableId),
     /// What a variable is bound to.
@@ -366,12 +381,35 @@ pub struct Program<'a> {
     pub skips: Vec<usize>,
     /// The variables that contexts have, in the order of their universes.
     pub variables: Vec<Variables>,
-    /// The predicates that traits state, those that are assumed, and those of questions, headers of impls among them.
+    /// The predicates that traits state, those that are assumed, and those of questions and of impls.
     pub clauses: Vec<Clause>,
     /// The methods of tables.
     pub methods: Vec<Method>,
+    /// The impls that goals may follow from.
+    pub impls: Vec<Impl>,
     pub stated: Vec<Stated>,
     /// The traits, by their numbers, that the language knows as `Sized`.
     pub sized: Vec<usize>,
     pub questions: Vec<Question>,
+}
+
+impl<'a> Program<'a> {
+    // Nothing is said.
+    pub(super) fn new(alloc: Global) -> Program<'a> {
+        Program {
+            items: Vec::new(alloc),
+            names: Vec::new(alloc),
+            terms: Vec::new(alloc),
+            parts: Vec::new(alloc),
+            puts: Vec::new(alloc),
+            skips: Vec::new(alloc),
+            variables: Vec::new(alloc),
+            clauses: Vec::new(alloc),
+            methods: Vec::new(alloc),
+            impls: Vec::new(alloc),
+            stated: Vec::new(alloc),
+            sized: Vec::new(alloc),
+            questions: Vec::new(alloc),
+        }
+    }
 }

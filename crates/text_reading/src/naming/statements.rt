@@ -278,6 +278,10 @@ impl<'a> Namer<'a> {
             (Form::Stating, [name]) => self.begin_stating(node, *name),
             (Form::States(kind), [_, clauses @ ..]) => self.state(node, kind, clauses),
             (Form::Assumes, _) => self.assume(node, parts),
+            (Form::Impl, [generics, given, asks @ ..]) => {
+                self.declare_impl(node, *generics, *given, asks)
+            }
+            (Form::Given, _) => Ok(()),
             _ => self.question(node, form, parts),
         }
     }
@@ -293,6 +297,16 @@ impl<'a> Namer<'a> {
             }
         }
         self.made.push(made)?;
+        Ok(())
+    }
+
+    // Makes all nodes to what they are.
+    fn go_over(&mut self) -> Result<(), NameError> {
+        self.declare_plain()?;
+        let tree = self.tree;
+        for node in &tree.nodes {
+            self.go_on(node)?;
+        }
         Ok(())
     }
 }
@@ -311,8 +325,6 @@ fn count_to(node: &Node, number: usize) -> Result<usize, NameError> {
 /// `Memory` where a growth was refused, and else what is wrong with the text, and where.
 pub fn look_up<'a>(alloc: Global, text: &'a str, tree: &'a Tree) -> Result<Program<'a>, NameError> {
     let mut namer = Namer::new(alloc, text, tree)?;
-    for node in &tree.nodes {
-        namer.go_on(node)?;
-    }
+    namer.go_over()?;
     Ok(namer.program)
 }

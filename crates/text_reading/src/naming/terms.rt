@@ -7,14 +7,15 @@ use crate::naming::plain::{USIZE, number_size};
 use crate::naming::program::{ParamSort, Parts, Sort, Term};
 use crate::naming::statements::MOST_VARIABLES;
 use crate::reading::{Form, ItemSort, Leaf, Node, NodeKind};
-use term_enums::{FnHeader, Mutability};
+use term_enums::FnHeader;
 
-// What the members of a list are to be: of any sort, of one, what an item declares, or a type that implements a trait,
-// and then what an item of the trait declares.
+// What the members of a list are to be: of any sort, of one, the first of one and all others of another, what an item
+// declares, or a type that implements a trait, and then what an item of the trait declares.
 #[derive(Clone, Copy)]
 pub(super) enum Wanted {
     Any,
     Each(Sort),
+    First(Sort, Sort),
     Declared(usize),
     Implemented(usize),
 }
@@ -25,6 +26,43 @@ pub(super) fn given_to(param: ParamSort) -> Sort {
         ParamSort::Region => Sort::Region,
         ParamSort::Type => Sort::Type,
         ParamSort::Const => Sort::Const,
+    }
+}
+
+// What a form over terms alone is, and what these are to be.
+fn made_of(form: Form) -> Option<(Sort, Wanted)> {
+    match form {
+        Form::Never | Form::Slice | Form::Tuple | Form::RawPtr(_) => {
+            Some((Sort::Type, Wanted::Each(Sort::Type)))
+        }
+        Form::Array => Some((Sort::Type, Wanted::First(Sort::Type, Sort::Const))),
+        Form::Ref(_) => Some((Sort::Type, Wanted::First(Sort::Region, Sort::Type))),
+        Form::Pat => Some((Sort::Type, Wanted::First(Sort::Type, Sort::Pattern))),
+        Form::Branch => Some((Sort::Const, Wanted::Each(Sort::Const))),
+        Form::Range => Some((Sort::Pattern, Wanted::Each(Sort::Const))),
+        Form::Or | Form::NotNull => Some((Sort::Pattern, Wanted::Each(Sort::Pattern))),
+        _ => None,
+    }
+}
+
+// The term of a form over the terms of a list, which is a range of a program's parts.
+fn term_over(form: Form, parts: &[usize], list: Parts) -> Option<Term> {
+    let numbers = parts.get(list.first..list.behind)?;
+    match (form, numbers) {
+        (Form::Tuple, _) => Some(Term::Tuple(list)),
+        (Form::Branch, _) => Some(Term::Branch(USIZE, list)),
+        (Form::Or, _) => Some(Term::Or(list)),
+        (Form::Never, []) => Some(Term::Never),
+        (Form::NotNull, []) => Some(Term::NotNull),
+        (Form::Slice, [element]) => Some(Term::Slice(*element)),
+        (Form::RawPtr(mutability), [pointee]) => Some(Term::RawPtr(*pointee, mutability)),
+        (Form::Array, [element, length]) => Some(Term::Array(*element, *length)),
+        (Form::Ref(mutability), [region, pointee]) => {
+            Some(Term::Ref(*region, *pointee, mutability))
+        }
+        (Form::Pat, [base, pat]) => Some(Term::Pat(*base, *pat)),
+        (Form::Range, [start, end]) => Some(Term::Range(*start, *end)),
+        _ => None,
     }
 }
 
@@ -48,6 +86,7 @@ impl<'a> Namer<'a> {
         match wanted {
             Wanted::Any => None,
             Wanted::Each(sort) => Some(sort),
+            Wanted::First(first, others) => Some(if place == 0 { first } else { others }),
             Wanted::Declared(item) => self.declared_at(item, place),
             Wanted::Implemented(item) => match place.checked_sub(1) {
                 None => Some(Sort::Type),
@@ -323,53 +362,20 @@ impl<'a> Namer<'a> {
         self.item_term(node, sort, number, args.parts, args.levels)
     }
 
-    // A slice.
-    fn slice(&mut self, node: &Node, element: usize) -> Result<Made, NameError> {
-        let element = self.term(node, element, Some(Sort::Type))?;
-        let term = Term::Slice(element.number);
-        self.add(node, term, Sort::Type, element.levels)
-    }
-
-    // An array.
-    fn array(&mut self, node: &Node, element: usize, length: usize) -> Result<Made, NameError> {
-        let element = self.term(node, element, Some(Sort::Type))?;
-        let length = self.term(node, length, Some(Sort::Const))?;
-        let levels = element.levels.max(length.levels);
-        let term = Term::Array(element.number, length.number);
-        self.add(node, term, Sort::Type, levels)
-    }
-
-    // A tuple.
-    fn tuple(&mut self, node: &Node, members: &[usize]) -> Result<Made, NameError> {
-        let list = self.list(node, members, Wanted::Each(Sort::Type))?;
-        self.add(node, Term::Tuple(list.parts), Sort::Type, list.levels)
-    }
-
-    // A raw pointer.
-    fn pointer(
+    // A form over terms alone.
+    fn plain(
         &mut self,
         node: &Node,
-        pointee: usize,
-        mutability: Mutability,
+        form: Form,
+        sort: Sort,
+        wanted: Wanted,
+        parts: &[usize],
     ) -> Result<Made, NameError> {
-        let pointee = self.term(node, pointee, Some(Sort::Type))?;
-        let term = Term::RawPtr(pointee.number, mutability);
-        self.add(node, term, Sort::Type, pointee.levels)
-    }
-
-    // A reference.
-    fn reference(
-        &mut self,
-        node: &Node,
-        region: usize,
-        pointee: usize,
-        mutability: Mutability,
-    ) -> Result<Made, NameError> {
-        let region = self.term(node, region, Some(Sort::Region))?;
-        let pointee = self.term(node, pointee, Some(Sort::Type))?;
-        let levels = region.levels.max(pointee.levels);
-        let term = Term::Ref(region.number, pointee.number, mutability);
-        self.add(node, term, Sort::Type, levels)
+        let list = self.list(node, parts, wanted)?;
+        match term_over(form, &self.program.parts, list.parts) {
+            Some(term) => self.add(node, term, sort, list.levels),
+            None => Err(error_at(node, Wrong::NotRead)),
+        }
     }
 
     // An expression.
@@ -386,37 +392,6 @@ impl<'a> Namer<'a> {
         };
         let args = self.list(node, args, Wanted::Any)?;
         self.add(node, Term::Expr(kind, args.parts), Sort::Const, args.levels)
-    }
-
-    // The values of a type that a pattern admits.
-    fn pattern_type(&mut self, node: &Node, base: usize, pat: usize) -> Result<Made, NameError> {
-        let base = self.term(node, base, Some(Sort::Type))?;
-        let pat = self.term(node, pat, Some(Sort::Pattern))?;
-        let levels = base.levels.max(pat.levels);
-        let term = Term::Pat(base.number, pat.number);
-        self.add(node, term, Sort::Type, levels)
-    }
-
-    // A pattern of the values between two constants.
-    fn range(&mut self, node: &Node, start: usize, end: usize) -> Result<Made, NameError> {
-        let start = self.term(node, start, Some(Sort::Const))?;
-        let end = self.term(node, end, Some(Sort::Const))?;
-        let levels = start.levels.max(end.levels);
-        let term = Term::Range(start.number, end.number);
-        self.add(node, term, Sort::Pattern, levels)
-    }
-
-    // A value that is made of constants.
-    fn branch(&mut self, node: &Node, constants: &[usize]) -> Result<Made, NameError> {
-        let list = self.list(node, constants, Wanted::Each(Sort::Const))?;
-        let term = Term::Branch(USIZE, list.parts);
-        self.add(node, term, Sort::Const, list.levels)
-    }
-
-    // A pattern of alternatives.
-    fn alternatives(&mut self, node: &Node, pats: &[usize]) -> Result<Made, NameError> {
-        let list = self.list(node, pats, Wanted::Each(Sort::Pattern))?;
-        self.add(node, Term::Or(list.parts), Sort::Pattern, list.levels)
     }
 
     // A function pointer.
@@ -453,23 +428,13 @@ impl<'a> Namer<'a> {
         form: Form,
         parts: &[usize],
     ) -> Result<Option<Made>, NameError> {
+        if let Some((sort, wanted)) = made_of(form) {
+            return Ok(Some(self.plain(node, form, sort, wanted, parts)?));
+        }
         let made = match (form, parts) {
             (Form::Applied, _) => self.applied(node, parts),
-            (Form::Never, []) => self.add(node, Term::Never, Sort::Type, 0),
-            (Form::Slice, [element]) => self.slice(node, *element),
-            (Form::Array, [element, length]) => self.array(node, *element, *length),
-            (Form::Tuple, members) => self.tuple(node, members),
-            (Form::RawPtr(mutability), [pointee]) => self.pointer(node, *pointee, mutability),
-            (Form::Ref(mutability), [region, pointee]) => {
-                self.reference(node, *region, *pointee, mutability)
-            }
-            (Form::Branch, constants) => self.branch(node, constants),
             (Form::Expr, _) => self.expression(node, parts),
             (Form::Const, [constant]) => self.term(node, *constant, Some(Sort::Const)),
-            (Form::Pat, [base, pat]) => self.pattern_type(node, *base, *pat),
-            (Form::Range, [start, end]) => self.range(node, *start, *end),
-            (Form::Or, pats) => self.alternatives(node, pats),
-            (Form::NotNull, []) => self.add(node, Term::NotNull, Sort::Pattern, 0),
             (Form::FnPtr(header), [variables, types @ ..]) => {
                 self.fn_ptr(node, header, *variables, types)
             }

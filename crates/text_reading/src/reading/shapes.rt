@@ -29,8 +29,9 @@ pub enum Sort {
     Limit,
     Pulls,
     Predicate,
-    /// The header of an impl, the list of what it is generic over, and what stands in it.
+    /// The header of an impl, what one gives, the list of what it is generic over, and what stands in that.
     ImplHeader,
+    Given,
     Generics,
     GenericParam,
     /// A method of a table.

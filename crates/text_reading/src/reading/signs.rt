@@ -75,6 +75,7 @@ pub enum Sign {
     Opaque,
     Overlap,
     Param,
+    Prove,
     Pulls,
     Regions,
     Repeat,
@@ -105,7 +106,7 @@ pub enum Sign {
 }
 
 // Each sign and its text, in the order of the texts.
-static SIGNS: [(Sign, &str); 97] = [
+static SIGNS: [(Sign, &str); 98] = [
     (Sign::Bang, "!"),
     (Sign::AbiC, "\"C\""),
     (Sign::AbiSystem, "\"system\""),
@@ -176,6 +177,7 @@ static SIGNS: [(Sign, &str); 97] = [
     (Sign::Opaque, "opaque"),
     (Sign::Overlap, "overlap"),
     (Sign::Param, "param"),
+    (Sign::Prove, "prove"),
     (Sign::Pulls, "pulls"),
     (Sign::Regions, "regions"),
     (Sign::Repeat, "repeat"),

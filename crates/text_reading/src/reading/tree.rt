@@ -121,6 +121,11 @@ pub enum Form {
     Stating,
     /// What is assumed from here on, in place of what was: the predicates, if any.
     Assumes,
+    /// An impl, for later questions: the `Generics` that it is under, the `Given`, and the predicates that it asks for.
+    Impl,
+    /// What an impl gives: the `Bound` of a binder that binds nothing, the `Named` of the trait, and the type that
+    /// implements it.
+    Given,
     /// The trait that the language knows as `Sized`: its name.
     IsSized,
     /// That a type implements a trait, or not: the `Bound` of the binder, the type, and the `Named` of the trait.
@@ -187,6 +192,8 @@ pub enum Form {
     Method,
     /// Whether what a relation records of regions can hold: an `Outlives` for each fact about regions.
     Solve,
+    /// Whether a predicate follows from impls and from what is assumed: the predicate, and the depth if that is given.
+    Prove,
     /// A list of terms.
     Terms,
     /// A term, and the one that is put for it.

@@ -1,12 +1,10 @@
 -- What each call asks for and tells.
-use Rattle.std.proofs.Common.{rules, arith, ◌≤◌, ◌+◌, sym, subst, length, All, IsTrue}
-use Rattle.relation_terms.specs.Trees.{known}
+use Rattle.std.proofs.Common.{rules, arith, ◌≤◌, ◌+◌, sym, subst, length, All}
 use Rattle.kept_records.proofs.Kept.{may_put_back}
 use Rattle.relation_proving.specs.declared.searching.Round.TheVariants.{Proved, Failed}
 use Rattle.relation_proving.specs.Candidates.{MayAsk, TellsCandidate}
-use Rattle.relation_proving.specs.RuleTerms.{MayUse, rule_tree}
-use Rattle.relation_proving.specs.Traits.{GivesAnother}
-use Rattle.relation_proving.proofs.OtherTraits.{another_fails}
+use Rattle.relation_proving.specs.RuleTerms.{MayUse}
+use Rattle.relation_proving.proofs.Barred.{never_fails}
 use Rattle.relation_proving.specs.Telling.{GoesOn, TellsGoal, goal_tree}
 use Rattle.relation_proving.proofs.OneValue.{comes_to_one}
 use Rattle.relation_proving.specs.Searching.{TellsRound}
@@ -91,21 +89,21 @@ follows-returns g t c =
     }
 
 -- A rule that is tried, and the record put back.
-pub try_and_put_back-gives_another_trait-requires : goal.try_and_put_back-gives_another_trait-requires
-try_and_put_back-gives_another_trait-requires g t c = record {
-  rule_known = subst (λ m. IsTrue (known (rule_tree m c.args.rule))) (sym c.cx.ensures) c.requires.rule.is_known;
-  goal_known = subst (λ m. IsTrue (known (m.clause c.args.goal.now))) (sym c.cx.ensures) c.requires.goal.is_known;
+pub try_and_put_back-is_passed_over-requires : goal.try_and_put_back-is_passed_over-requires
+try_and_put_back-is_passed_over-requires g t c = record {
+  lawful = c.requires.may.lawful;
+  rule = c.requires.rule;
+  goal = c.requires.goal;
 }
 
-pub try_and_put_back-returns-then-gives_another_trait : goal.try_and_put_back-returns-then-gives_another_trait
-try_and_put_back-returns-then-gives_another_trait g t c =
+pub try_and_put_back-returns-then-is_passed_over : goal.try_and_put_back-returns-then-is_passed_over
+try_and_put_back-returns-then-is_passed_over g t c =
     let s = g.C.InferCtxtLike.state c.args.ctx.now in
-    let other = subst (λ m. GivesAnother m c.args.rule c.args.goal.now) c.cx.ensures
-    (c.gives_another_trait.ensures c.if-gives_another_trait.true) in
     record {
       goes_on = goes_itself s c.requires.may.lawful;
       back = back_itself s c.requires.may.lawful;
-      tells = another_fails s s c.args.rules.now c.args.param_env c.args.rule c.args.goal.now c.requires.goal other;
+      tells = never_fails s s c.args.rules.now c.args.param_env c.args.rule c.args.goal.now
+          (c.is_passed_over.ensures c.if-is_passed_over.true);
     }
 
 pub try_and_put_back-keep-requires : goal.try_and_put_back-keep-requires

@@ -1207,8 +1207,8 @@ structurally_relate_consts-returns g t c =
     (ap₂ const_over same_a (ap (list_tree (arg_tree q.meaning)) c.as_slice.ensures.value)) (made.made).sure
     (made.made).means
 
-pub structurally_relate_tys-returns-then-is_error_of-clause-related : goal.structurally_relate_tys-returns-then-is_error_of-clause-related
-structurally_relate_tys-returns-then-is_error_of-clause-related g t c =
+pub structurally_relate_tys-returns-then-is_left-clause-related : goal.structurally_relate_tys-returns-then-is_left-clause-related
+structurally_relate_tys-returns-then-is_left-clause-related g t c =
     let r = g.R.HasState.state c.args.r.now in
     let a = (r.meaning).ty c.args.a.now in
     let b = (r.meaning).ty c.args.b.now in
@@ -1218,10 +1218,10 @@ structurally_relate_tys-returns-then-is_error_of-clause-related g t c =
     let k = c.requires.asked in
     left_error g.R.TypeRelation.manner r r.ambient (r.meaning).ty type_sort a b c.args.a.now refl k.left_in k.right_in
     (sorted.ty c.args.a.now k.left_known) (sorted.ty c.args.b.now k.right_known) refl k.left_known
-    (c.is_error_of.ensures.0 c.if-is_error_of.true)
+    ((c.in_ok-start.ensures.starts).left_error c.if-is_left.true)
 
-pub structurally_relate_tys-returns-then-is_error_of-2-clause-related : goal.structurally_relate_tys-returns-then-is_error_of-2-clause-related
-structurally_relate_tys-returns-then-is_error_of-2-clause-related g t c =
+pub structurally_relate_tys-returns-then-is_right-clause-related : goal.structurally_relate_tys-returns-then-is_right-clause-related
+structurally_relate_tys-returns-then-is_right-clause-related g t c =
     let r = g.R.HasState.state c.args.r.now in
     let a = (r.meaning).ty c.args.a.now in
     let b = (r.meaning).ty c.args.b.now in
@@ -1231,16 +1231,10 @@ structurally_relate_tys-returns-then-is_error_of-2-clause-related g t c =
     let k = c.requires.asked in
     right_error g.R.TypeRelation.manner r r.ambient (r.meaning).ty type_sort a b c.args.b.now refl k.left_in k.right_in
     (sorted.ty c.args.a.now k.left_known) (sorted.ty c.args.b.now k.right_known) refl k.right_known
-    (c.is_error_of-2.ensures.0 c.if-is_error_of-2.true)
+    ((c.in_ok-start.ensures.starts).right_error c.if-is_right.true)
 
-pub structurally_relate_tys-compare_tys_of-requires-clause-no_error : goal.structurally_relate_tys-compare_tys_of-requires-clause-no_error
-structurally_relate_tys-compare_tys_of-requires-clause-no_error g t c = (
-  (λ h. false≢true (sym c.if-is_error_of.false ∙ c.is_error_of.ensures.1 h)),
-  λ h. false≢true (sym c.if-is_error_of-2.false ∙ c.is_error_of-2.ensures.1 h),
-)
-
-pub structurally_relate_tys-returns-in_err-compare_tys_of-clause-related : goal.structurally_relate_tys-returns-in_err-compare_tys_of-clause-related
-structurally_relate_tys-returns-in_err-compare_tys_of-clause-related g t c =
+pub structurally_relate_tys-returns-in_err-start-clause-related : goal.structurally_relate_tys-returns-in_err-start-clause-related
+structurally_relate_tys-returns-in_err-start-clause-related g t c =
     let r = g.R.HasState.state c.args.r.now in
     let M = g.R.TypeRelation.manner in
     let a = (r.meaning).ty c.args.a.now in
@@ -1248,7 +1242,7 @@ structurally_relate_tys-returns-in_err-compare_tys_of-clause-related g t c =
     let e = g.met.R.TypeRelation.reads c.args.r.now in
     let cx = g.R.TypeRelation.interner c.args.r.now in
     let sorted : Sorted r.meaning = subst (λ m. Sorted m) (sym e) (g.met.I.Interner.sorted cx) in
-    let n = c.in_err-compare_tys_of in
+    let n = c.in_err-start in
     let k = c.requires.asked in
     let failed = as_err c.from_residual.result (Unrelated n.field-0.0) c.from_residual.ensures.0 c.from_residual.ensures.1 in
     subst (λ z. RelatedForms M r r r.ambient a b (r.meaning).ty z) (sym failed)
@@ -1266,12 +1260,12 @@ structurally_relate_tys-loop-i-init g t c =
     let cx = g.R.TypeRelation.interner c.args.r.now in
     let sorted : Sorted r.meaning = subst (λ m. Sorted m) (sym e) (g.met.I.Interner.sorted cx) in
     let k = c.requires.asked in
-    let alike = (c.in_ok-compare_tys_of.ensures).alike in
+    let alike = (c.in_ok-start.ensures.starts).alike c.if-is_left.false c.if-is_right.false in
     record {
       lawful = c.requires.lawful;
       fronted = fronted_none g.R.TypeRelation.manner r (head_of a) r.ambient (direct_parts a) (direct_parts b);
-      left_count = c.parts_count_of-n.ensures.counts;
-      right_count = c.parts_count_of-n.ensures.counts ∙ parts_counted a b alike;
+      left_count = ((c.in_ok-start.ensures.starts).counted c.if-is_left.false c.if-is_right.false);
+      right_count = ((c.in_ok-start.ensures.starts).counted c.if-is_left.false c.if-is_right.false) ∙ parts_counted a b alike;
       are_parts = record {
         left_list = parts_of_list type_sort a (sorted.ty c.args.a.now k.left_known);
         right_list = parts_of_list type_sort b (sorted.ty c.args.b.now k.right_known);
@@ -1298,7 +1292,7 @@ structurally_relate_tys-relate_with_variance-related-requires g t c κs within =
     let extends = ((inv.fronted).passes).extends in
     let same_a : (q.meaning).ty c.args.a.now ≡ a = extends.ty c.args.a.now k.left_known in
     let same_b : (q.meaning).ty c.args.b.now ≡ b = extends.ty c.args.b.now k.right_known in
-    let alike = (c.in_ok-compare_tys_of.ensures).alike in
+    let alike = (c.in_ok-start.ensures.starts).alike c.if-is_left.false c.if-is_right.false in
     let test = c.loop-i-test.true in
     let lx : i < count (direct_parts a) = omega (arith, test, inv.left_count) in
     let ly : i < count (direct_parts b) = omega (arith, test, inv.right_count) in
@@ -1335,7 +1329,7 @@ structurally_relate_tys-returns-in_err-keep_answer-clause-related g t c =
     let extends = ((inv.fronted).passes).extends in
     let same_a : (q.meaning).ty c.args.a.now ≡ a = extends.ty c.args.a.now k.left_known in
     let same_b : (q.meaning).ty c.args.b.now ≡ b = extends.ty c.args.b.now k.right_known in
-    let alike = (c.in_ok-compare_tys_of.ensures).alike in
+    let alike = (c.in_ok-start.ensures.starts).alike c.if-is_left.false c.if-is_right.false in
     let test = c.loop-i-test.true in
     let lx : i < count (direct_parts a) = omega (arith, test, inv.left_count) in
     let ly : i < count (direct_parts b) = omega (arith, test, inv.right_count) in
@@ -1397,7 +1391,7 @@ structurally_relate_tys-loop-i-preserved g t c =
     let extends = ((inv.fronted).passes).extends in
     let same_a : (q.meaning).ty c.args.a.now ≡ a = extends.ty c.args.a.now k.left_known in
     let same_b : (q.meaning).ty c.args.b.now ≡ b = extends.ty c.args.b.now k.right_known in
-    let alike = (c.in_ok-compare_tys_of.ensures).alike in
+    let alike = (c.in_ok-start.ensures.starts).alike c.if-is_left.false c.if-is_right.false in
     let test = c.loop-i-test.true in
     let lx : i < count (direct_parts a) = omega (arith, test, inv.left_count) in
     let ly : i < count (direct_parts b) = omega (arith, test, inv.right_count) in
@@ -1466,7 +1460,7 @@ structurally_relate_tys-keep_answer-requires g t c =
     let within : c.loop-i.i ≤ count (direct_parts a) = omega (arith, test, inv.left_count) in
     record {
       sure = subst (λ z. IsTrue (known z)) (sym then) k.left_known;
-      over_args = λ o. absurd (false≢true (sym c.if-is_by_parts_of.false ∙ (c.is_by_parts_of.ensures).1 (subst IsByParts then o)));
+      over_args = λ o. absurd (false≢true (sym c.if-in_order.false ∙ ((c.in_ok-start.ensures.starts).by_parts c.if-is_left.false c.if-is_right.false).1 (subst IsByParts then o)));
       within = subst (λ z. c.loop-i.i ≤ count (direct_parts z)) (sym then) within;
     }
 
@@ -1483,7 +1477,7 @@ structurally_relate_tys-note_args-requires-clause-one_form g t c =
     let extends = ((inv.fronted).passes).extends in
     let same_a : (q.meaning).ty c.args.a.now ≡ a = extends.ty c.args.a.now k.left_known in
     let same_b : (q.meaning).ty c.args.b.now ≡ b = extends.ty c.args.b.now k.right_known in
-    let alike = (c.in_ok-compare_tys_of.ensures).alike in
+    let alike = (c.in_ok-start.ensures.starts).alike c.if-is_left.false c.if-is_right.false in
     subst₂ AreOfOneForm (sym same_a) (sym same_b) alike
 
 pub structurally_relate_tys-note_args-requires-clause-related : goal.structurally_relate_tys-note_args-requires-clause-related
@@ -1499,7 +1493,7 @@ structurally_relate_tys-note_args-requires-clause-related g t c =
     let extends = ((inv.fronted).passes).extends in
     let same_a : (q.meaning).ty c.args.a.now ≡ a = extends.ty c.args.a.now k.left_known in
     let same_b : (q.meaning).ty c.args.b.now ≡ b = extends.ty c.args.b.now k.right_known in
-    let alike = (c.in_ok-compare_tys_of.ensures).alike in
+    let alike = (c.in_ok-start.ensures.starts).alike c.if-is_left.false c.if-is_right.false in
     let test = c.loop-i-test.false in
     let end = (c.loop-i.auto).i-end in
     let left : i ≡ count (direct_parts a) = omega (arith, test, end, inv.left_count) in
@@ -1524,7 +1518,7 @@ structurally_relate_tys-note_args-requires-clause-asked g t c =
     let extends = ((inv.fronted).passes).extends in
     let same_a : (q.meaning).ty c.args.a.now ≡ a = extends.ty c.args.a.now k.left_known in
     let same_b : (q.meaning).ty c.args.b.now ≡ b = extends.ty c.args.b.now k.right_known in
-    let alike = (c.in_ok-compare_tys_of.ensures).alike in
+    let alike = (c.in_ok-start.ensures.starts).alike c.if-is_left.false c.if-is_right.false in
     subst₂ (λ t u. Asked M q q.ambient t u) (sym same_a) (sym same_b)
     (subst (λ v. Asked M q v a b) (sym ((inv.fronted).passes).ambient) (asked_later M r.ambient a b (inv.fronted).passes k))
 
@@ -1541,7 +1535,7 @@ structurally_relate_tys-returns-in_err-note_args-clause-related g t c =
     let extends = ((inv.fronted).passes).extends in
     let same_a : (q.meaning).ty c.args.a.now ≡ a = extends.ty c.args.a.now k.left_known in
     let same_b : (q.meaning).ty c.args.b.now ≡ b = extends.ty c.args.b.now k.right_known in
-    let alike = (c.in_ok-compare_tys_of.ensures).alike in
+    let alike = (c.in_ok-start.ensures.starts).alike c.if-is_left.false c.if-is_right.false in
     let test = c.loop-i-test.false in
     let end = (c.loop-i.auto).i-end in
     let left : i ≡ count (direct_parts a) = omega (arith, test, end, inv.left_count) in
@@ -1571,7 +1565,7 @@ structurally_relate_tys-returns-then-is_empty-clause-related g t c =
     let extends = ((inv.fronted).passes).extends in
     let same_a : (q.meaning).ty c.args.a.now ≡ a = extends.ty c.args.a.now k.left_known in
     let same_b : (q.meaning).ty c.args.b.now ≡ b = extends.ty c.args.b.now k.right_known in
-    let alike = (c.in_ok-compare_tys_of.ensures).alike in
+    let alike = (c.in_ok-start.ensures.starts).alike c.if-is_left.false c.if-is_right.false in
     let test = c.loop-i-test.false in
     let end = (c.loop-i.auto).i-end in
     let left : i ≡ count (direct_parts a) = omega (arith, test, end, inv.left_count) in
@@ -1601,7 +1595,7 @@ structurally_relate_tys-make_ty-requires-clause-ty_known g t c =
     let extends = ((inv.fronted).passes).extends in
     let same_a : (q.meaning).ty c.args.a.now ≡ a = extends.ty c.args.a.now k.left_known in
     let same_b : (q.meaning).ty c.args.b.now ≡ b = extends.ty c.args.b.now k.right_known in
-    let alike = (c.in_ok-compare_tys_of.ensures).alike in
+    let alike = (c.in_ok-start.ensures.starts).alike c.if-is_left.false c.if-is_right.false in
     let test = c.loop-i-test.false in
     let end = (c.loop-i.auto).i-end in
     let left : i ≡ count (direct_parts a) = omega (arith, test, end, inv.left_count) in
@@ -1638,7 +1632,7 @@ structurally_relate_tys-make_ty-requires-clause-parts_known g t c =
     let extends = ((inv.fronted).passes).extends in
     let same_a : (q.meaning).ty c.args.a.now ≡ a = extends.ty c.args.a.now k.left_known in
     let same_b : (q.meaning).ty c.args.b.now ≡ b = extends.ty c.args.b.now k.right_known in
-    let alike = (c.in_ok-compare_tys_of.ensures).alike in
+    let alike = (c.in_ok-start.ensures.starts).alike c.if-is_left.false c.if-is_right.false in
     let test = c.loop-i-test.false in
     let end = (c.loop-i.auto).i-end in
     let left : i ≡ count (direct_parts a) = omega (arith, test, end, inv.left_count) in
@@ -1676,7 +1670,7 @@ structurally_relate_tys-make_ty-requires-clause-fits g t c =
     let extends = ((inv.fronted).passes).extends in
     let same_a : (q.meaning).ty c.args.a.now ≡ a = extends.ty c.args.a.now k.left_known in
     let same_b : (q.meaning).ty c.args.b.now ≡ b = extends.ty c.args.b.now k.right_known in
-    let alike = (c.in_ok-compare_tys_of.ensures).alike in
+    let alike = (c.in_ok-start.ensures.starts).alike c.if-is_left.false c.if-is_right.false in
     let test = c.loop-i-test.false in
     let end = (c.loop-i.auto).i-end in
     let left : i ≡ count (direct_parts a) = omega (arith, test, end, inv.left_count) in
@@ -1714,7 +1708,7 @@ structurally_relate_tys-returns-clause-related g t c =
     let extends = ((inv.fronted).passes).extends in
     let same_a : (q.meaning).ty c.args.a.now ≡ a = extends.ty c.args.a.now k.left_known in
     let same_b : (q.meaning).ty c.args.b.now ≡ b = extends.ty c.args.b.now k.right_known in
-    let alike = (c.in_ok-compare_tys_of.ensures).alike in
+    let alike = (c.in_ok-start.ensures.starts).alike c.if-is_left.false c.if-is_right.false in
     let test = c.loop-i-test.false in
     let end = (c.loop-i.auto).i-end in
     let left : i ≡ count (direct_parts a) = omega (arith, test, end, inv.left_count) in
@@ -1745,17 +1739,17 @@ structurally_relate_tys-returns-clause-related g t c =
     (ap₂ form_over stays (ap (list_tree (arg_tree u.meaning)) c.as_slice.ensures.value ∙ listed)) (made.made).sure
     (made.made).means
 
-pub structurally_relate_tys-returns-then-is_error_of-clause-asks : goal.structurally_relate_tys-returns-then-is_error_of-clause-asks
-structurally_relate_tys-returns-then-is_error_of-clause-asks g t c = λ promised directed d ts us over opens.
-    absurd (error_not_over over (inl (c.is_error_of.ensures.0 c.if-is_error_of.true)))
+pub structurally_relate_tys-returns-then-is_left-clause-asks : goal.structurally_relate_tys-returns-then-is_left-clause-asks
+structurally_relate_tys-returns-then-is_left-clause-asks g t c = λ promised directed d ts us over opens.
+    absurd (error_not_over over (inl ((c.in_ok-start.ensures.starts).left_error c.if-is_left.true)))
 
-pub structurally_relate_tys-returns-then-is_error_of-2-clause-asks : goal.structurally_relate_tys-returns-then-is_error_of-2-clause-asks
-structurally_relate_tys-returns-then-is_error_of-2-clause-asks g t c = λ promised directed d ts us over opens.
-    absurd (error_not_over over (inr (c.is_error_of-2.ensures.0 c.if-is_error_of-2.true)))
+pub structurally_relate_tys-returns-then-is_right-clause-asks : goal.structurally_relate_tys-returns-then-is_right-clause-asks
+structurally_relate_tys-returns-then-is_right-clause-asks g t c = λ promised directed d ts us over opens.
+    absurd (error_not_over over (inr ((c.in_ok-start.ensures.starts).right_error c.if-is_right.true)))
 
-pub structurally_relate_tys-returns-in_err-compare_tys_of-clause-asks : goal.structurally_relate_tys-returns-in_err-compare_tys_of-clause-asks
-structurally_relate_tys-returns-in_err-compare_tys_of-clause-asks g t c =
-    let n = c.in_err-compare_tys_of in
+pub structurally_relate_tys-returns-in_err-start-clause-asks : goal.structurally_relate_tys-returns-in_err-start-clause-asks
+structurally_relate_tys-returns-in_err-start-clause-asks g t c =
+    let n = c.in_err-start in
     λ promised. none_of_fault _ c.from_residual.result (Unrelated n.field-0.0) (as_err c.from_residual.result
     (Unrelated n.field-0.0) c.from_residual.ensures.0 c.from_residual.ensures.1)
 
@@ -1802,9 +1796,9 @@ structurally_relate_tys-returns-clause-asks g t c =
     k.right_known (made.grown).store [] ((made.grown).goals ∙ sym (append-nil u.goals)) promised
     c.in_ok-note_args.ensures.asks)
 
-pub structurally_relate_tys-returns-then-is_by_parts_of-clause-asks : goal.structurally_relate_tys-returns-then-is_by_parts_of-clause-asks
-structurally_relate_tys-returns-then-is_by_parts_of-clause-asks g t c = λ promised directed d ts us over opens.
-    absurd (by_parts_not_over over ((c.is_by_parts_of.ensures).0 c.if-is_by_parts_of.true))
+pub structurally_relate_tys-returns-then-in_order-clause-asks : goal.structurally_relate_tys-returns-then-in_order-clause-asks
+structurally_relate_tys-returns-then-in_order-clause-asks g t c = λ promised directed d ts us over opens.
+    absurd (by_parts_not_over over (((c.in_ok-start.ensures.starts).by_parts c.if-is_left.false c.if-is_right.false).0 c.if-in_order.true))
 
 pub relate_in_order-loop-i-init : goal.relate_in_order-loop-i-init
 relate_in_order-loop-i-init g t c =
@@ -2850,8 +2844,8 @@ structurally_relate_tys-relate_in_order-requires g t c κs within =
     let lawful = c.requires.lawful in
     let decides = c.requires.decides in
     let asked = c.requires.asked in
-    let form : IsByParts a = (c.is_by_parts_of.ensures).0 c.if-is_by_parts_of.true in
-    let alike = (c.in_ok-compare_tys_of.ensures).alike in
+    let form : IsByParts a = ((c.in_ok-start.ensures.starts).by_parts c.if-is_left.false c.if-is_right.false).0 c.if-in_order.true in
+    let alike = (c.in_ok-start.ensures.starts).alike c.if-is_left.false c.if-is_right.false in
     let under : 8 * depth (r.store).budget (weight r.store a + weight r.store b) <
     8 * depth (r.store).budget (weight r.store a + weight r.store b) + 1 = omega arith in
     let d = c.decreases in (
@@ -2894,8 +2888,8 @@ structurally_relate_tys-returns-in_err-relate_in_order-clause-related g t c =
     subst (λ z. RelatedForms M r q r.ambient a b (q.meaning).ty z) (sym failed)
     (refused_again M r.ambient a b (part_tree q.meaning) (q.meaning).ty n.field-0.0 (n.ensures).related)
 
-pub structurally_relate_tys-returns-then-is_by_parts_of-clause-related : goal.structurally_relate_tys-returns-then-is_by_parts_of-clause-related
-structurally_relate_tys-returns-then-is_by_parts_of-clause-related g t c =
+pub structurally_relate_tys-returns-then-in_order-clause-related : goal.structurally_relate_tys-returns-then-in_order-clause-related
+structurally_relate_tys-returns-then-in_order-clause-related g t c =
     let r = g.R.HasState.state c.args.r.now in
     let M = g.R.TypeRelation.manner in
     let a = (r.meaning).ty c.args.a.now in
@@ -2909,7 +2903,7 @@ pub structurally_relate_tys-part_of-x-requires-clause-over_args : goal.structura
 structurally_relate_tys-part_of-x-requires-clause-over_args g t c =
     let k = c.requires.asked in
     let same = (((c.loop-i.invariant.fronted).passes).extends).ty c.args.a.now k.left_known in
-    λ o. absurd (false≢true (sym c.if-is_by_parts_of.false ∙ (c.is_by_parts_of.ensures).1 (subst IsByParts same o)))
+    λ o. absurd (false≢true (sym c.if-in_order.false ∙ ((c.in_ok-start.ensures.starts).by_parts c.if-is_left.false c.if-is_right.false).1 (subst IsByParts same o)))
 
 pub structurally_relate_tys-part_of-y-requires-clause-over_args : goal.structurally_relate_tys-part_of-y-requires-clause-over_args
 structurally_relate_tys-part_of-y-requires-clause-over_args g t c =
@@ -2919,8 +2913,8 @@ structurally_relate_tys-part_of-y-requires-clause-over_args g t c =
     let b = (r.meaning).ty c.args.b.now in
     let k = c.requires.asked in
     let same = (((c.loop-i.invariant.fronted).passes).extends).ty c.args.b.now k.right_known in
-    let back = alike_back a b (c.in_ok-compare_tys_of.ensures).alike in
-    λ o. absurd (false≢true (sym c.if-is_by_parts_of.false ∙ (c.is_by_parts_of.ensures).1
+    let back = alike_back a b ((c.in_ok-start.ensures.starts).alike c.if-is_left.false c.if-is_right.false) in
+    λ o. absurd (false≢true (sym c.if-in_order.false ∙ ((c.in_ok-start.ensures.starts).by_parts c.if-is_left.false c.if-is_right.false).1
     (term_alike b a back (subst IsByParts same o))))
 
 pub binders-returns-then-is_same_of : goal.binders-returns-then-is_same_of

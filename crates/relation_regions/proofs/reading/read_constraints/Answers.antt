@@ -24,29 +24,29 @@ pub read_constraint-requires-clause-constraint_in :
     goal.read_constraint-requires-clause-constraint_in
 read_constraint-requires-clause-constraint_in g c =
     let m = g.C.InferCtxtLike.state c.args.ctx.now in
-    let xs = c.region_constraints-constraints.result.now in
+    let xs = c.args.constraints.now in
     let qs = (m.store).constraints in
     let i = c.loop-index.index in
     let r = c.index-constraints-index.result in
     let sound = g.met.C.InferCtxtLike.sound c.args.ctx.now c.requires.lawful in
-    let lt = index_below (constraint_of m.meaning) xs qs i c.region_constraints-constraints.ensures c.loop-index-test.true in
+    let lt = index_below (constraint_of m.meaning) xs qs i c.requires.constraints c.loop-index-test.true in
     subst (ConstraintIn m.store) (sym (at_index (constraint_of m.meaning) xs qs i r
-    c.region_constraints-constraints.ensures c.loop-index-test.true c.index-constraints-index.is))
+    c.requires.constraints c.loop-index-test.true c.index-constraints-index.is))
     (sound.constraints_in i no_constraint lt)
 
 pub loop-index-preserved : goal.loop-index-preserved
 loop-index-preserved g c =
     let m = g.C.InferCtxtLike.state c.args.ctx.now in
-    let xs = c.region_constraints-constraints.result.now in
+    let xs = c.args.constraints.now in
     let qs = (m.store).constraints in
     let i = c.loop-index.index in
     let r = c.index-constraints-index.result in
     let mid = trees_of m c.loop-index.regions.table in
     let after = trees_of m c.read_constraint.new.regions.table in
-    let lt = index_below (constraint_of m.meaning) xs qs i c.region_constraints-constraints.ensures c.loop-index-test.true in
+    let lt = index_below (constraint_of m.meaning) xs qs i c.requires.constraints c.loop-index-test.true in
     let e : constraint_of m.meaning r ≡ get_or qs i no_constraint =
     at_index (constraint_of m.meaning) xs qs i r
-    c.region_constraints-constraints.ensures c.loop-index-test.true c.index-constraints-index.is in
+    c.requires.constraints c.loop-index-test.true c.index-constraints-index.is in
     let more : GrowsBy (IsOf (get_or qs i no_constraint)) mid after =
     subst (λ q. GrowsBy (IsOf q) mid after) e c.in_ok-read_constraint.ensures.more in
     let p = c.loop-index.pairs.pairs in
@@ -63,10 +63,10 @@ loop-index-preserved g c =
 pub returns-clause-read : goal.returns-clause-read
 returns-clause-read g c =
     let m = g.C.InferCtxtLike.state c.args.ctx.now in
-    let xs = c.region_constraints-constraints.result.now in
+    let xs = c.args.constraints.now in
     let qs = (m.store).constraints in
     let same : length qs ≡ length xs = ap (λ (l : List Constraint). length l)
-    (sym c.region_constraints-constraints.ensures) ∙ length-map xs (constraint_of m.meaning) in
+    (sym c.requires.constraints) ∙ length-map xs (constraint_of m.meaning) in
     let e : c.loop-index.index ≡ length qs =
     omega (arith, c.loop-index-test.false, c.loop-index.auto.index-end, same) in
     subst (λ n. HaveRead qs n (trees_of m c.loop-index.regions.table) c.loop-index.pairs.pairs

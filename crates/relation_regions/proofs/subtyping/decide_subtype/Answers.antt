@@ -1,192 +1,184 @@
 -- What relating and solving promise of two values is what the answer says of them.
-use Rattle.term_enums.specs.declared.StructurallyRelateAliases.TheVariants.{No}
+use Rattle.std.proofs.Common.{◌≡◌, sym, subst, Ok}
 use Rattle.relation_terms.proofs.Stays.{extends_on}
-use Rattle.relation_semantics.specs.Lawful.{items_of}
-use Rattle.relation_combining.specs.Solving.{solver_settings}
-use Rattle.context_relation.specs.Relating.{term_in}
-use Rattle.relation_regions.specs.Solving.{region_pairs}
-use Rattle.relation_regions.proofs.Answering.{solved_as, unmet_as, follows_as, facts_as, may_be_related}
-use Rattle.relation_regions.proofs.Answering.{solved_none, solved_some}
-use Rattle.relation_regions.proofs.Bare.{bare_terms, plain_terms, closed_term}
-use Rattle.relation_regions.proofs.Entailing.{never_entailed, entailed, follows_still, refuted}
+use Rattle.relation_folds.specs.Faults.{IfSpent}
+use Rattle.relation_regions.specs.Answers.{Decides, FollowsStill, IsCertain, IsClash, IsUnsaid, IsPossible}
+use Rattle.relation_regions.proofs.Answering.{clash_decides, clash_follows, clash_certain, clash_is, clash_unsaid}
+use Rattle.relation_regions.proofs.Answering.{clash_possible, clash_spent, told_decides, told_follows, told_certain}
+use Rattle.relation_regions.proofs.Answering.{told_clash, told_unsaid, told_possible, facts_as}
 use Rattle.relation_regions.proofs.Staying.{facts_later}
 use Rattle.relation_regions.proofs.subtyping.decide_subtype.Goals as goal
 
--- They clash.
-pub returns-in-Err-Unrelated-clause-decides : goal.returns-in-Err-Unrelated-clause-decides
-returns-in-Err-Unrelated-clause-decides g c = λ bare follows.
-    let s = g.C.InferCtxtLike.state c.args.ctx.now in
-    let lhs = term_in s g.T.Relate.over g.T.HasTree.tree c.args.lhs in
-    let rhs = term_in s g.T.Relate.over g.T.HasTree.tree c.args.rhs in
-    let plain = plain_terms (solver_settings No s.setup) lhs rhs bare in
-    let answered = c.in-Err-Unrelated.ensures.complete bare.sort bare.left_value bare.right_value plain in
-    never_entailed (region_pairs s.meaning c.args.facts.now) (items_of s.meaning) s.store
-    ((s.meaning).param_env c.args.param_env) c.args.variance lhs rhs
-    (rw c.in-Err-Unrelated.field-0-is at answered)
+-- They aren't related.
+pub returns-in-Err-clause-decides : goal.returns-in-Err-clause-decides
+returns-in-Err-clause-decides g c =
+    let state = g.C.InferCtxtLike.state in
+    let over = g.T.Relate.over in
+    let tree = g.T.HasTree.tree in
+    subst (λ r. Decides state c.args.ctx.now c.relate.new.self c.args.facts.now
+    over tree c.args.param_env c.args.variance c.args.lhs c.args.rhs r) (sym c.without_goals.ensures)
+    (clash_decides state c.args.ctx.now c.relate.new.self c.args.facts.now
+    over tree c.args.param_env c.args.variance c.args.lhs c.args.rhs c.in-Err.fault c.in-Err.ensures.complete)
 
-pub returns-in-Err-Unrelated-clause-certain : goal.returns-in-Err-Unrelated-clause-certain
-returns-in-Err-Unrelated-clause-certain g c = λ bare.
-    let s = g.C.InferCtxtLike.state c.args.ctx.now in
-    let lhs = term_in s g.T.Relate.over g.T.HasTree.tree c.args.lhs in
-    let rhs = term_in s g.T.Relate.over g.T.HasTree.tree c.args.rhs in
-    let plain = plain_terms (solver_settings No s.setup) lhs rhs bare in
-    let answered = c.in-Err-Unrelated.ensures.complete bare.sort bare.left_value bare.right_value plain in
-    (rw c.in-Err-Unrelated.field-0-is at answered, tt)
+pub returns-in-Err-clause-follows : goal.returns-in-Err-clause-follows
+returns-in-Err-clause-follows g c =
+    let state = g.C.InferCtxtLike.state in
+    let over = g.T.Relate.over in
+    let tree = g.T.HasTree.tree in
+    subst (λ r. FollowsStill state c.args.ctx.now c.relate.new.self c.args.facts.now
+    over tree c.args.param_env c.args.variance c.args.lhs c.args.rhs r) (sym c.without_goals.ensures)
+    (clash_follows state c.args.ctx.now c.relate.new.self c.args.facts.now
+    over tree c.args.param_env c.args.variance c.args.lhs c.args.rhs c.in-Err.fault)
 
-pub returns-in-Err-Unrelated-clause-clash : goal.returns-in-Err-Unrelated-clause-clash
-returns-in-Err-Unrelated-clause-clash g c =
-    rw c.in-Err-Unrelated.field-0-is at c.in-Err-Unrelated.ensures.fault.errors
+pub returns-in-Err-clause-certain : goal.returns-in-Err-clause-certain
+returns-in-Err-clause-certain g c =
+    let state = g.C.InferCtxtLike.state in
+    let over = g.T.Relate.over in
+    let tree = g.T.HasTree.tree in
+    subst (λ r. IsCertain state c.args.ctx.now c.relate.new.self c.args.facts.now
+    over tree c.args.param_env c.args.variance c.args.lhs c.args.rhs r) (sym c.without_goals.ensures)
+    (clash_certain state c.args.ctx.now c.relate.new.self c.args.facts.now
+    over tree c.args.param_env c.args.variance c.args.lhs c.args.rhs c.in-Err.fault c.in-Err.ensures.complete)
 
--- No instantiation is left.
-pub returns-in-Err-Budget-clause-certain : goal.returns-in-Err-Budget-clause-certain
-returns-in-Err-Budget-clause-certain g c = λ bare.
-    let s = g.C.InferCtxtLike.state c.args.ctx.now in
-    let lhs = term_in s g.T.Relate.over g.T.HasTree.tree c.args.lhs in
-    let rhs = term_in s g.T.Relate.over g.T.HasTree.tree c.args.rhs in
-    let plain = plain_terms (solver_settings No s.setup) lhs rhs bare in
-    let answered = c.in-Err-Budget.ensures.complete bare.sort bare.left_value bare.right_value plain in
-    (tt, rw c.in-Err-Budget.field-0-is at answered)
+pub returns-in-Err-clause-clash : goal.returns-in-Err-clause-clash
+returns-in-Err-clause-clash g c =
+    let state = g.C.InferCtxtLike.state in
+    let over = g.T.Relate.over in
+    let tree = g.T.HasTree.tree in
+    subst (λ r. IsClash state c.args.ctx.now c.relate.new.self c.args.facts.now
+    over tree c.args.param_env c.args.variance c.args.lhs c.args.rhs r) (sym c.without_goals.ensures)
+    (clash_is state c.args.ctx.now c.relate.new.self c.args.facts.now
+    over tree c.args.param_env c.args.variance c.args.lhs c.args.rhs c.in-Err.fault c.in-Err.ensures.fault.errors)
+
+pub returns-in-Err-clause-unsaid : goal.returns-in-Err-clause-unsaid
+returns-in-Err-clause-unsaid g c =
+    let state = g.C.InferCtxtLike.state in
+    let over = g.T.Relate.over in
+    let tree = g.T.HasTree.tree in
+    subst (λ r. IsUnsaid state c.args.ctx.now c.relate.new.self c.args.facts.now r) (sym c.without_goals.ensures)
+    (clash_unsaid state c.args.ctx.now c.relate.new.self c.args.facts.now
+    over tree c.args.param_env c.args.variance c.args.lhs c.args.rhs c.in-Err.fault)
+
+pub returns-in-Err-clause-possible : goal.returns-in-Err-clause-possible
+returns-in-Err-clause-possible g c =
+    let state = g.C.InferCtxtLike.state in
+    let over = g.T.Relate.over in
+    let tree = g.T.HasTree.tree in
+    subst (λ r. IsPossible state c.args.ctx.now c.relate.new.self c.args.facts.now
+    over tree c.args.param_env c.args.variance c.args.lhs c.args.rhs r) (sym c.without_goals.ensures)
+    (clash_possible state c.args.ctx.now c.relate.new.self c.args.facts.now
+    over tree c.args.param_env c.args.variance c.args.lhs c.args.rhs c.in-Err.fault)
+
+pub returns-in-Err-clause-spent : goal.returns-in-Err-clause-spent
+returns-in-Err-clause-spent g c =
+    let state = g.C.InferCtxtLike.state in
+    let over = g.T.Relate.over in
+    let tree = g.T.HasTree.tree in
+    let none_left : Type 0 = (state c.relate.new.self).store.budget ≡ 0 in
+    subst (λ r. IfSpent r none_left) (sym c.without_goals.ensures)
+    (clash_spent state c.args.ctx.now c.relate.new.self c.args.facts.now over tree c.args.param_env c.args.variance
+    c.args.lhs c.args.rhs c.in-Err.fault none_left c.in-Err.ensures.fault.spent)
 
 -- Facts stay facts.
-pub returns-in-Err-Unrelated-clause-facts_stay : goal.returns-in-Err-Unrelated-clause-facts_stay
-returns-in-Err-Unrelated-clause-facts_stay g c =
+pub returns-in-Err-clause-facts_stay : goal.returns-in-Err-clause-facts_stay
+returns-in-Err-clause-facts_stay g c =
     facts_later (g.C.InferCtxtLike.state c.args.ctx.now) (g.C.InferCtxtLike.state c.relate.new.self) c.args.facts.now
-    c.in-Err-Unrelated.ensures.leaves.grown c.in-Err-Unrelated.ensures.leaves.later c.requires.facts_in
+    c.in-Err.ensures.leaves.grown c.in-Err.ensures.leaves.later c.requires.facts_in
 
-pub returns-in-Err-Budget-clause-facts_stay : goal.returns-in-Err-Budget-clause-facts_stay
-returns-in-Err-Budget-clause-facts_stay g c =
-    facts_later (g.C.InferCtxtLike.state c.args.ctx.now) (g.C.InferCtxtLike.state c.relate.new.self) c.args.facts.now
-    c.in-Err-Budget.ensures.leaves.grown c.in-Err-Budget.ensures.leaves.later c.requires.facts_in
-
-pub returns-in-Err-Memory-clause-facts_stay : goal.returns-in-Err-Memory-clause-facts_stay
-returns-in-Err-Memory-clause-facts_stay g c =
-    facts_later (g.C.InferCtxtLike.state c.args.ctx.now) (g.C.InferCtxtLike.state c.relate.new.self) c.args.facts.now
-    c.in-Err-Memory.ensures.leaves.grown c.in-Err-Memory.ensures.leaves.later c.requires.facts_in
-
-pub unmet-requires-clause-facts_in : goal.unmet-requires-clause-facts_in
-unmet-requires-clause-facts_in g c =
+pub solve-requires-clause-facts_in : goal.solve-requires-clause-facts_in
+solve-requires-clause-facts_in g c =
     facts_later (g.C.InferCtxtLike.state c.args.ctx.now) (g.C.InferCtxtLike.state c.relate.new.self) c.args.facts.now
     c.in-Ok.ensures.leaves.grown c.in-Ok.ensures.leaves.later c.requires.facts_in
 
-pub returns-in_err-unmet-clause-facts_stay : goal.returns-in_err-unmet-clause-facts_stay
-returns-in_err-unmet-clause-facts_stay g c =
-    let s = g.C.InferCtxtLike.state c.args.ctx.now in
-    let d = g.C.InferCtxtLike.state c.relate.new.self in
-    let f = g.C.InferCtxtLike.state c.unmet.new.ctx in
-    facts_as s d f c.args.facts.now c.requires.facts_in c.in-Ok.ensures.leaves.grown
-    c.in_err-unmet.ensures.grows.extends c.in_err-unmet.ensures.same_record
-    c.in-Ok.ensures.leaves.later
+pub returns-in_err-solved-clause-facts_stay : goal.returns-in_err-solved-clause-facts_stay
+returns-in_err-solved-clause-facts_stay g c =
+    facts_as (g.C.InferCtxtLike.state c.args.ctx.now) (g.C.InferCtxtLike.state c.relate.new.self)
+    (g.C.InferCtxtLike.state c.solve.new.ctx) c.args.facts.now c.requires.facts_in c.in-Ok.ensures.leaves.grown
+    c.in_err-solved.ensures.grows.extends c.in_err-solved.ensures.same_record c.in-Ok.ensures.leaves.later
 
-pub returns-in-None-clause-facts_stay : goal.returns-in-None-clause-facts_stay
-returns-in-None-clause-facts_stay g c =
-    let s = g.C.InferCtxtLike.state c.args.ctx.now in
-    let d = g.C.InferCtxtLike.state c.relate.new.self in
-    let f = g.C.InferCtxtLike.state c.unmet.new.ctx in
-    facts_as s d f c.args.facts.now c.requires.facts_in c.in-Ok.ensures.leaves.grown
-    c.in_ok-unmet.ensures.grows.extends c.in_ok-unmet.ensures.same_record
-    c.in-Ok.ensures.leaves.later
-
-pub returns-in-Some-clause-facts_stay : goal.returns-in-Some-clause-facts_stay
-returns-in-Some-clause-facts_stay g c =
-    let s = g.C.InferCtxtLike.state c.args.ctx.now in
-    let d = g.C.InferCtxtLike.state c.relate.new.self in
-    let f = g.C.InferCtxtLike.state c.unmet.new.ctx in
-    facts_as s d f c.args.facts.now c.requires.facts_in c.in-Ok.ensures.leaves.grown
-    c.in_ok-unmet.ensures.grows.extends c.in_ok-unmet.ensures.same_record
-    c.in-Ok.ensures.leaves.later
+pub returns-clause-facts_stay : goal.returns-clause-facts_stay
+returns-clause-facts_stay g c =
+    facts_as (g.C.InferCtxtLike.state c.args.ctx.now) (g.C.InferCtxtLike.state c.relate.new.self)
+    (g.C.InferCtxtLike.state c.solve.new.ctx) c.args.facts.now c.requires.facts_in c.in-Ok.ensures.leaves.grown
+    c.in_ok-solved.ensures.grows.extends c.in_ok-solved.ensures.same_record c.in-Ok.ensures.leaves.later
 
 -- What the interner knew it knows.
-pub returns-in-None-clause-grown : goal.returns-in-None-clause-grown
-returns-in-None-clause-grown g c =
-    extends_on c.in-Ok.ensures.leaves.grown c.in_ok-unmet.ensures.grows.extends
+pub returns-clause-grown : goal.returns-clause-grown
+returns-clause-grown g c =
+    extends_on c.in-Ok.ensures.leaves.grown c.in_ok-solved.ensures.grows.extends
 
-pub returns-in-Some-clause-grown : goal.returns-in-Some-clause-grown
-returns-in-Some-clause-grown g c =
-    extends_on c.in-Ok.ensures.leaves.grown c.in_ok-unmet.ensures.grows.extends
+-- What is recorded was solved.
+pub returns-clause-decides : goal.returns-clause-decides
+returns-clause-decides g c =
+    let state = g.C.InferCtxtLike.state in
+    let over = g.T.Relate.over in
+    let tree = g.T.HasTree.tree in
+    subst (λ d. Decides state c.args.ctx.now c.solve.new.ctx c.args.facts.now
+    over tree c.args.param_env c.args.variance c.args.lhs c.args.rhs (Ok d))
+    (sym c.with_goals.ensures) (told_decides state c.args.ctx.now c.relate.new.self c.solve.new.ctx c.args.facts.now
+    over tree c.args.param_env c.args.variance c.args.lhs c.args.rhs c.in-Ok.goals c.requires.facts_in
+    c.in-Ok.ensures.leaves.grown c.solve.ensures.grows.extends c.solve.ensures.same_record
+    c.in-Ok.ensures.asks.asked c.in-Ok.ensures.met
+    c.in_ok-solved.solved c.in_ok-solved.ensures.met c.in_ok-solved.ensures.unmet)
 
--- What is recorded can be so.
-pub returns-in-None-clause-decides : goal.returns-in-None-clause-decides
-returns-in-None-clause-decides g c = λ bare follows.
-    let s = g.C.InferCtxtLike.state c.args.ctx.now in
-    let d = g.C.InferCtxtLike.state c.relate.new.self in
-    let f = g.C.InferCtxtLike.state c.unmet.new.ctx in
-    let lhs = term_in s g.T.Relate.over g.T.HasTree.tree c.args.lhs in
-    let rhs = term_in s g.T.Relate.over g.T.HasTree.tree c.args.rhs in
-    let just = c.in-Ok.ensures.asks.asked (bare_terms (solver_settings No s.setup) lhs rhs bare) in
-    let where_asked = c.in-Ok.ensures.met bare.sort bare.left_value bare.right_value bare.left_bare bare.right_bare in
-    let none = solved_none f c.args.facts.now c.in_ok-unmet.field-0 c.in-None.is c.in_ok-unmet.ensures.solved in
-    let solved = solved_as s d f c.args.facts.now c.requires.facts_in c.in-Ok.ensures.leaves.grown
-    c.in_ok-unmet.ensures.grows.extends c.in_ok-unmet.ensures.same_record none in
-    (λ yes. entailed (region_pairs s.meaning c.args.facts.now) s.store d.store bare just where_asked solved, λ h. tt)
+pub returns-clause-follows : goal.returns-clause-follows
+returns-clause-follows g c =
+    let state = g.C.InferCtxtLike.state in
+    let over = g.T.Relate.over in
+    let tree = g.T.HasTree.tree in
+    subst (λ d. FollowsStill state c.args.ctx.now c.solve.new.ctx c.args.facts.now
+    over tree c.args.param_env c.args.variance c.args.lhs c.args.rhs (Ok d))
+    (sym c.with_goals.ensures) (told_follows state c.args.ctx.now c.relate.new.self c.solve.new.ctx c.args.facts.now
+    over tree c.args.param_env c.args.variance c.args.lhs c.args.rhs c.in-Ok.goals c.requires.facts_in
+    c.in-Ok.ensures.leaves.grown c.solve.ensures.grows.extends c.solve.ensures.same_record
+    c.in-Ok.ensures.asks.asked c.in-Ok.ensures.met
+    c.in_ok-solved.solved c.in_ok-solved.ensures.met c.in-Ok.ensures.leaves.later)
 
-pub returns-in-None-clause-follows : goal.returns-in-None-clause-follows
-returns-in-None-clause-follows g c = λ bare follows yes.
-    let s = g.C.InferCtxtLike.state c.args.ctx.now in
-    let d = g.C.InferCtxtLike.state c.relate.new.self in
-    let f = g.C.InferCtxtLike.state c.unmet.new.ctx in
-    let lhs = term_in s g.T.Relate.over g.T.HasTree.tree c.args.lhs in
-    let rhs = term_in s g.T.Relate.over g.T.HasTree.tree c.args.rhs in
-    let just = c.in-Ok.ensures.asks.asked (bare_terms (solver_settings No s.setup) lhs rhs bare) in
-    let where_asked = c.in-Ok.ensures.met bare.sort bare.left_value bare.right_value bare.left_bare bare.right_bare in
-    let none = solved_none f c.args.facts.now c.in_ok-unmet.field-0 c.in-None.is c.in_ok-unmet.ensures.solved in
-    let solved = solved_as s d f c.args.facts.now c.requires.facts_in c.in-Ok.ensures.leaves.grown
-    c.in_ok-unmet.ensures.grows.extends c.in_ok-unmet.ensures.same_record none in
-    follows_as s d f c.args.facts.now c.requires.facts_in c.in-Ok.ensures.leaves.grown
-    c.in_ok-unmet.ensures.grows.extends c.in_ok-unmet.ensures.same_record
-    (follows_still (region_pairs s.meaning c.args.facts.now) s.store d.store bare just where_asked
-    c.in-Ok.ensures.leaves.later follows solved)
+pub returns-clause-certain : goal.returns-clause-certain
+returns-clause-certain g c =
+    let state = g.C.InferCtxtLike.state in
+    let over = g.T.Relate.over in
+    let tree = g.T.HasTree.tree in
+    subst (λ d. IsCertain state c.args.ctx.now c.solve.new.ctx c.args.facts.now
+    over tree c.args.param_env c.args.variance c.args.lhs c.args.rhs (Ok d))
+    (sym c.with_goals.ensures) (told_certain state c.args.ctx.now c.relate.new.self c.solve.new.ctx c.args.facts.now
+    over tree c.args.param_env c.args.variance c.args.lhs c.args.rhs c.in-Ok.goals c.requires.facts_in
+    c.in-Ok.ensures.leaves.grown c.solve.ensures.grows.extends c.solve.ensures.same_record
+    c.in-Ok.ensures.asks.asked c.in-Ok.ensures.met
+    c.in_ok-solved.solved c.in_ok-solved.ensures.met c.in-Ok.ensures.no_goals)
 
-pub returns-in-None-clause-certain : goal.returns-in-None-clause-certain
-returns-in-None-clause-certain g c = λ bare.
-    let s = g.C.InferCtxtLike.state c.args.ctx.now in
-    let d = g.C.InferCtxtLike.state c.relate.new.self in
-    let f = g.C.InferCtxtLike.state c.unmet.new.ctx in
-    let lhs = term_in s g.T.Relate.over g.T.HasTree.tree c.args.lhs in
-    let rhs = term_in s g.T.Relate.over g.T.HasTree.tree c.args.rhs in
-    let just = c.in-Ok.ensures.asks.asked (bare_terms (solver_settings No s.setup) lhs rhs bare) in
-    let where_asked = c.in-Ok.ensures.met bare.sort bare.left_value bare.right_value bare.left_bare bare.right_bare in
-    let none = solved_none f c.args.facts.now c.in_ok-unmet.field-0 c.in-None.is c.in_ok-unmet.ensures.solved in
-    let solved = solved_as s d f c.args.facts.now c.requires.facts_in c.in-Ok.ensures.leaves.grown
-    c.in_ok-unmet.ensures.grows.extends c.in_ok-unmet.ensures.same_record none in
-    let no_goals = c.in-Ok.ensures.no_goals (closed_term lhs (bare.left_value).1 (bare.left_bare).2)
-    (closed_term rhs (bare.right_value).1 (bare.right_bare).2) (bare.left_bare).1 (bare.right_bare).1 in
-    ((entailed (region_pairs s.meaning c.args.facts.now) s.store d.store bare just where_asked solved, no_goals), tt)
+pub returns-clause-clash : goal.returns-clause-clash
+returns-clause-clash g c =
+    let state = g.C.InferCtxtLike.state in
+    let over = g.T.Relate.over in
+    let tree = g.T.HasTree.tree in
+    subst (λ d. IsClash state c.args.ctx.now c.solve.new.ctx c.args.facts.now
+    over tree c.args.param_env c.args.variance c.args.lhs c.args.rhs (Ok d))
+    (sym c.with_goals.ensures) (told_clash state c.args.ctx.now c.relate.new.self c.solve.new.ctx c.args.facts.now
+    over tree c.args.param_env c.args.variance c.args.lhs c.args.rhs c.in-Ok.goals c.requires.facts_in
+    c.in-Ok.ensures.leaves.grown c.solve.ensures.grows.extends c.solve.ensures.same_record
+    c.in_ok-solved.solved)
 
-pub returns-in-None-clause-possible : goal.returns-in-None-clause-possible
-returns-in-None-clause-possible g c =
-    let s = g.C.InferCtxtLike.state c.args.ctx.now in
-    let d = g.C.InferCtxtLike.state c.relate.new.self in
-    let f = g.C.InferCtxtLike.state c.unmet.new.ctx in
-    let none = solved_none f c.args.facts.now c.in_ok-unmet.field-0 c.in-None.is c.in_ok-unmet.ensures.solved in
-    may_be_related s d f c.args.facts.now c.requires.facts_in c.in-Ok.ensures.leaves.grown
-    c.in_ok-unmet.ensures.grows.extends c.in_ok-unmet.ensures.same_record
-    c.in-Ok.goals.items c.in-Ok.ensures.asks.goals.0 c.in-Ok.ensures.both.sound.0 none
+pub returns-clause-unsaid : goal.returns-clause-unsaid
+returns-clause-unsaid g c =
+    let state = g.C.InferCtxtLike.state in
+    let over = g.T.Relate.over in
+    let tree = g.T.HasTree.tree in
+    subst (λ d. IsUnsaid state c.args.ctx.now c.solve.new.ctx c.args.facts.now (Ok d))
+    (sym c.with_goals.ensures) (told_unsaid state c.args.ctx.now c.relate.new.self c.solve.new.ctx c.args.facts.now
+    over tree c.args.param_env c.args.variance c.args.lhs c.args.rhs c.in-Ok.goals c.requires.facts_in
+    c.in-Ok.ensures.leaves.grown c.solve.ensures.grows.extends c.solve.ensures.same_record
+    c.in_ok-solved.solved c.in_ok-solved.ensures.unmet)
 
--- It can't.
-pub returns-in-Some-clause-decides : goal.returns-in-Some-clause-decides
-returns-in-Some-clause-decides g c = λ bare follows.
-    let s = g.C.InferCtxtLike.state c.args.ctx.now in
-    let d = g.C.InferCtxtLike.state c.relate.new.self in
-    let f = g.C.InferCtxtLike.state c.unmet.new.ctx in
-    let lhs = term_in s g.T.Relate.over g.T.HasTree.tree c.args.lhs in
-    let rhs = term_in s g.T.Relate.over g.T.HasTree.tree c.args.rhs in
-    let just = c.in-Ok.ensures.asks.asked (bare_terms (solver_settings No s.setup) lhs rhs bare) in
-    let where_asked = c.in-Ok.ensures.met bare.sort bare.left_value bare.right_value bare.left_bare bare.right_bare in
-    let some = solved_some f c.args.facts.now c.in_ok-unmet.field-0 c.in-Some.unmet c.in-Some.is
-    c.in_ok-unmet.ensures.solved in
-    let refutes = unmet_as s d f c.args.facts.now c.requires.facts_in c.in-Ok.ensures.leaves.grown
-    c.in_ok-unmet.ensures.grows.extends c.in_ok-unmet.ensures.same_record
-    ((f.meaning).region c.in-Some.unmet.0) ((f.meaning).region c.in-Some.unmet.1) some.0 some.1 in
-    refuted (region_pairs s.meaning c.args.facts.now) s.store d.store bare just where_asked follows refutes
-
-pub returns-in-Some-clause-unsaid : goal.returns-in-Some-clause-unsaid
-returns-in-Some-clause-unsaid g c =
-    let s = g.C.InferCtxtLike.state c.args.ctx.now in
-    let d = g.C.InferCtxtLike.state c.relate.new.self in
-    let f = g.C.InferCtxtLike.state c.unmet.new.ctx in
-    let some = solved_some f c.args.facts.now c.in_ok-unmet.field-0 c.in-Some.unmet c.in-Some.is
-    c.in_ok-unmet.ensures.solved in
-    let refutes = unmet_as s d f c.args.facts.now c.requires.facts_in c.in-Ok.ensures.leaves.grown
-    c.in_ok-unmet.ensures.grows.extends c.in_ok-unmet.ensures.same_record
-    ((f.meaning).region c.in-Some.unmet.0) ((f.meaning).region c.in-Some.unmet.1) some.0 some.1 in
-    refutes.unsaid
+pub returns-clause-possible : goal.returns-clause-possible
+returns-clause-possible g c =
+    let state = g.C.InferCtxtLike.state in
+    let over = g.T.Relate.over in
+    let tree = g.T.HasTree.tree in
+    subst (λ d. IsPossible state c.args.ctx.now c.solve.new.ctx c.args.facts.now
+    over tree c.args.param_env c.args.variance c.args.lhs c.args.rhs (Ok d))
+    (sym c.with_goals.ensures) (told_possible state c.args.ctx.now c.relate.new.self c.solve.new.ctx c.args.facts.now
+    over tree c.args.param_env c.args.variance c.args.lhs c.args.rhs c.in-Ok.goals c.requires.facts_in
+    c.in-Ok.ensures.leaves.grown c.solve.ensures.grows.extends c.solve.ensures.same_record
+    c.in_ok-solved.solved c.in_ok-solved.ensures.met c.in-Ok.ensures.asks.goals.0
+    c.in-Ok.ensures.both.sound.0)

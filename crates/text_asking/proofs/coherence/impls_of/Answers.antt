@@ -5,12 +5,11 @@ use Rattle.text_asking.proofs.coherence.impls_of.Goals as goal
 
 pub header_of-requires-2 : goal.header_of-requires-2
 header_of-requires-2 g c =
-    ready_stays c.header_of.ensures.grown c.args.terms.now.built.now c.args.terms.now.needs.now c.requires
+    ready_stays c.header_of.ensures.grown c.args.terms.now.built.now c.requires
 
 pub environment_of-requires : goal.environment_of-requires
 environment_of-requires g c =
-    ready_stays (extends_on c.header_of.ensures.grown c.header_of-2.ensures.grown) c.args.terms.now.built.now
-    c.args.terms.now.needs.now c.requires
+    ready_stays (extends_on c.header_of.ensures.grown c.header_of-2.ensures.grown) c.args.terms.now.built.now c.requires
 
 pub returns-in_err-rhs-clause-grown : goal.returns-in_err-rhs-clause-grown
 returns-in_err-rhs-clause-grown g c = extends_on c.header_of.ensures.grown c.header_of-2.ensures.grown

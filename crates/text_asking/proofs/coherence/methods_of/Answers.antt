@@ -6,7 +6,7 @@ use Rattle.text_asking.proofs.coherence.methods_of.Goals as goal
 
 pub method_of-requires : goal.method_of-requires
 method_of-requires g c =
-    ready_stays c.loop-method.invariant.grown c.args.terms.now.built.now c.args.terms.now.needs.now c.requires
+    ready_stays c.loop-method.invariant.grown c.args.terms.now.built.now c.requires
 
 pub loop-method-preserved : goal.loop-method-preserved
 loop-method-preserved g c =

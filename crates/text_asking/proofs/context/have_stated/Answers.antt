@@ -1,17 +1,12 @@
-use Rattle.std.proofs.Common.{sym, subst, max, arith}
+use Rattle.std.proofs.Common.{subst, max, arith}
 use Rattle.std.proofs.lemmas.Result.{on_ok_weaker}
 use Rattle.relation_terms.specs.Heads.{type_var, const_var}
 use Rattle.relation_terms.specs.Meaning.{Extends}
-use Rattle.relation_terms.proofs.Stays.{stays_same, extends_on}
+use Rattle.relation_terms.proofs.Stays.{extends_on}
 use Rattle.text_asking.proofs.Universes.{entered_variables, stated_made}
 use Rattle.text_asking.proofs.context.have_stated.Goals as goal
 
 -- The interner has grown.
-pub returns-in_err-enter_universe-clause-grown : goal.returns-in_err-enter_universe-clause-grown
-returns-in_err-enter_universe-clause-grown g c =
-    let m = g.I.Interner.meaning c.args.ctx.now.interner in
-    subst (λ i. Extends m (g.I.Interner.meaning i)) (sym c.enter_universe.ensures.interner) (stays_same m)
-
 pub returns-in_err-make_variables-clause-grown : goal.returns-in_err-make_variables-clause-grown
 returns-in_err-make_variables-clause-grown g c =
     let n = g.I.Interner.meaning c.make_variables.new.ctx.interner in
@@ -33,11 +28,6 @@ returns-clause-grown g c =
     c.make_variables-2.ensures.grown) c.make_variables-3.ensures.grown
 
 -- No variable goes.
-pub returns-in_err-enter_universe-clause-kept : goal.returns-in_err-enter_universe-clause-kept
-returns-in_err-enter_universe-clause-kept g c =
-    λ k. let e = entered_variables c.args.ctx.now.inner c.enter_universe.new.ctx.inner c.enter_universe.ensures.rest k in
-    omega (arith, e)
-
 pub returns-in_err-make_variables-clause-kept : goal.returns-in_err-make_variables-clause-kept
 returns-in_err-make_variables-clause-kept g c =
     λ k. let e = entered_variables c.args.ctx.now.inner c.enter_universe.new.ctx.inner c.enter_universe.ensures.rest k in
@@ -67,7 +57,7 @@ returns-clause-has g c =
     let t = c.make_variables-2.ensures.kept type_var in
     let t2 = c.make_variables-3.ensures.kept type_var in
     let n = c.make_variables-3.ensures.kept const_var in
-    let enters = c.in_ok-enter_universe.ensures.enters in
+    let enters = c.enter_universe.ensures.enters in
     let u = c.make_variables.ensures.universe in
     let u2 = c.make_variables-2.ensures.universe in
     let u3 = c.make_variables-3.ensures.universe in
@@ -87,6 +77,6 @@ returns-clause-makes g c =
     on_ok_weaker c.make_variables-3.result
     (λ regions. stated_made u x c.enter_universe.new.ctx.inner c.make_variables.new.ctx.inner
     c.make_variables-2.new.ctx.inner c.make_variables-3.new.ctx.inner c.enter_universe.ensures.rest
-    c.in_ok-enter_universe.ensures.enters c.in_ok-make_variables.ensures.makes c.in_ok-make_variables.ensures.stays
+    c.enter_universe.ensures.enters c.in_ok-make_variables.ensures.makes c.in_ok-make_variables.ensures.stays
     c.in_ok-make_variables-2.ensures.makes c.in_ok-make_variables-2.ensures.stays regions)
     c.make_variables-3.ensures.makes

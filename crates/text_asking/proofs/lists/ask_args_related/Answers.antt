@@ -4,9 +4,8 @@ use Rattle.text_asking.proofs.lists.ask_args_related.Goals as goal
 
 pub args_of-requires-2-clause-ready : goal.args_of-requires-2-clause-ready
 args_of-requires-2-clause-ready g c =
-    ready_stays c.args_of.ensures.grown c.args.terms.now.built.now c.args.terms.now.needs.now c.requires.ready
+    ready_stays c.args_of.ensures.grown c.args.terms.now.built.now c.requires.ready
 
-pub relate_ready-requires-clause-ready : goal.relate_ready-requires-clause-ready
-relate_ready-requires-clause-ready g c =
-    ready_stays (extends_on c.args_of.ensures.grown c.args_of-2.ensures.grown) c.args.terms.now.built.now
-    c.args.terms.now.needs.now c.requires.ready
+pub relate_args-requires-clause-ready : goal.relate_args-requires-clause-ready
+relate_args-requires-clause-ready g c =
+    ready_stays (extends_on c.args_of.ensures.grown c.args_of-2.ensures.grown) c.args.terms.now.built.now c.requires.ready

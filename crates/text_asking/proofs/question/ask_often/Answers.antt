@@ -1,8 +1,10 @@
 use Rattle.std.proofs.Common.{sym, subst}
 use Rattle.relation_terms.specs.Meaning.{Extends}
 use Rattle.relation_terms.proofs.Stays.{extends_on}
-use Rattle.text_asking.specs.Asking.{AreReady}
+use Rattle.text_terms.specs.Built.{AreKnown}
+use Rattle.text_asking.specs.Fits.{AreFit}
 use Rattle.text_asking.proofs.AskingLemmas.{ready_stays}
+use Rattle.text_asking.proofs.FitLemmas.{fit_stays}
 use Rattle.text_asking.proofs.question.ask_often.Goals as goal
 
 pub loop-init : goal.loop-init
@@ -11,14 +13,20 @@ loop-init g c =
     record {
       lawful = h.lawful;
       grown = h.grown;
-      ready = ready_stays h.grown c.args.terms.now.built.now c.args.terms.now.needs.now c.requires.ready;
+      ready = ready_stays h.grown c.args.terms.now.built.now c.requires.ready;
+      fit = fit_stays h.grown c.args.terms.now.built.now c.args.terms.now.fits.now c.requires.ready c.requires.fit;
       known = h.known;
     }
 
 pub ask_in-outcome-requires-in-loop-clause-ready : goal.ask_in-outcome-requires-in-loop-clause-ready
 ask_in-outcome-requires-in-loop-clause-ready g c =
-    subst (λ i. AreReady (g.I.Interner.meaning i) c.args.terms.now.built.now c.args.terms.now.needs.now)
+    subst (λ i. AreKnown (g.I.Interner.meaning i) c.args.terms.now.built.now)
     (sym c.renewed-ctx.ensures.interner) c.loop.invariant.ready
+
+pub ask_in-outcome-requires-in-loop-clause-fit : goal.ask_in-outcome-requires-in-loop-clause-fit
+ask_in-outcome-requires-in-loop-clause-fit g c =
+    subst (λ i. AreFit (g.I.Interner.meaning i) c.args.terms.now.built.now c.args.terms.now.fits.now)
+    (sym c.renewed-ctx.ensures.interner) c.loop.invariant.fit
 
 pub loop-preserved : goal.loop-preserved
 loop-preserved g c =
@@ -30,6 +38,7 @@ loop-preserved g c =
     record {
       lawful = h.lawful;
       grown = extends_on c.loop.invariant.grown grown;
-      ready = ready_stays grown c.args.terms.now.built.now c.args.terms.now.needs.now c.loop.invariant.ready;
+      ready = ready_stays grown c.args.terms.now.built.now c.loop.invariant.ready;
+      fit = fit_stays grown c.args.terms.now.built.now c.args.terms.now.fits.now c.loop.invariant.ready c.loop.invariant.fit;
       known = h.known;
     }

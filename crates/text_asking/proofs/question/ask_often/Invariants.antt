@@ -1,7 +1,9 @@
 use Rattle.std.proofs.Common.{IfOk}
 use Rattle.relation_terms.specs.Meaning.{Extends}
 use Rattle.variable_tables.specs.Tables.{IsLawful}
-use Rattle.text_asking.specs.Asking.{AreReady, KnowsAnswer, KnowsRelated}
+use Rattle.text_terms.specs.Built.{AreKnown}
+use Rattle.text_asking.specs.Asking.{KnowsAnswer, KnowsRelated}
+use Rattle.text_asking.specs.Fits.{AreFit}
 use Rattle.text_asking.proofs.question.ask_often.Given as goal
 
 -- the terms stay ready, and what was answered last is known
@@ -11,6 +13,7 @@ invariant-loop g l =
     record {
       lawful : IsLawful m l.ctx.inner;
       grown : Extends (g.I.Interner.meaning l.fn.ctx.interner) m;
-      ready : AreReady m l.terms.built.now l.terms.needs.now;
+      ready : AreKnown m l.terms.built.now;
+      fit : AreFit m l.terms.built.now l.terms.fits.now;
       known : IfOk l.outcome (KnowsAnswer m (KnowsRelated m));
     }

@@ -19,6 +19,17 @@ pub(in crate::reading) static IMPL_HEADER: [Shape; 1] = [(
     ],
 )];
 
+// What an impl gives, as a predicate under no binder of its own.
+pub(in crate::reading) static GIVEN: [Shape; 1] = [(
+    Node(Form::Given),
+    &[
+        Part(Sort::NoBinder),
+        Part(Sort::Named),
+        Mark(Sign::For),
+        Part(Sort::Term),
+    ],
+)];
+
 // What an impl is generic over, or the list that is left out.
 pub(in crate::reading) static GENERICS: [Shape; 2] = [
     (

@@ -29,7 +29,7 @@ pub(in crate::reading) static QUESTION: [Shape; 3] = [
 ];
 
 // What is asked.
-pub(in crate::reading) static ASKED: [Shape; 31] = [
+pub(in crate::reading) static ASKED: [Shape; 32] = [
     (
         Node(Form::Visit),
         &[
@@ -323,6 +323,15 @@ pub(in crate::reading) static ASKED: [Shape; 31] = [
             Mark(Sign::Solve),
             Further(Sign::Where),
             List(Sort::Outlives, Line::By(Sign::Comma)),
+        ],
+    ),
+    (
+        Node(Form::Prove),
+        &[
+            Mark(Sign::Prove),
+            Part(Sort::Predicate),
+            Further(Sign::At),
+            Leaf(Expected::Number),
         ],
     ),
     (ITSELF, &[Part(Sort::Pair)]),

@@ -11,7 +11,7 @@ use term_enums::Variance;
 const TYPE_OR_CONST: Expected = Expected::Either(Sign::Type, Sign::Const);
 
 // A statement, without the `;` behind it. A function pointer that begins one is asked about.
-pub(in crate::reading) static STATEMENT: [Shape; 31] = [
+pub(in crate::reading) static STATEMENT: [Shape; 32] = [
     (
         ITSELF,
         &[NextTwo(Sign::Fn, Sign::LeftParen), Part(Sort::Question)],
@@ -220,6 +220,16 @@ pub(in crate::reading) static STATEMENT: [Shape; 31] = [
     (
         Node(Form::Assumes),
         &[Mark(Sign::Assume), Unless(Sign::Semicolon, Sort::Predicate)],
+    ),
+    (
+        Node(Form::Impl),
+        &[
+            Mark(Sign::Impl),
+            Part(Sort::Generics),
+            Part(Sort::Given),
+            Further(Sign::Where),
+            List(Sort::Predicate, Line::By(Sign::Comma)),
+        ],
     ),
     (
         Node(Form::Sets(Setting::Budget)),

@@ -7,25 +7,26 @@ use Rattle.relation_regions.proofs.Searching.{kept_more, found_now, keeps_itself
 use Rattle.relation_regions.proofs.Widened.{some_as_read}
 use Rattle.relation_regions.proofs.search.Search.find.Goals as goal
 
-pub returns-in_ok-push-3-clause-search : goal.returns-in_ok-push-3-clause-search
-returns-in_ok-push-3-clause-search c =
+pub returns-in_ok-push_row-clause-search : goal.returns-in_ok-push_row-clause-search
+returns-in_ok-push_row-clause-search c =
     let in_from : c.args.edge < length c.args.graph.now.from.items = omega arith in
     found_like _ _ _ _ _ _ _ _ _ _ _ _ c.args.edge c.args.place _ c.index.result.now c.requires.search
     c.requires.graph.from_nodes c.requires.edge c.requires.place c.index-node.ensures in_from c.requires.leads c.index.ensures
-    (c.is_none.ensures ∙ ap not c.if-is_none.true) (c.len.ensures ∙ c.args.self.now.nodes.ok.0) c.in_ok-push.ensures.items c.in_ok-push-2.ensures.items c.in_ok-push-3.ensures.items
+    (c.is_none.ensures ∙ ap not c.if-is_none.true) (c.len.ensures ∙ c.args.self.now.nodes.ok.0) c.in_ok-push_row.ensures.first
+    c.in_ok-push_row.ensures.second c.in_ok-push_row.ensures.third
 
-pub returns-in_ok-push-3-clause-keeps : goal.returns-in_ok-push-3-clause-keeps
-returns-in_ok-push-3-clause-keeps c =
+pub returns-in_ok-push_row-clause-keeps : goal.returns-in_ok-push_row-clause-keeps
+returns-in_ok-push_row-clause-keeps c =
     let from = c.args.graph.now.from.items in
     let node = c.index-node.result.now in
     let in_from : c.args.edge < length from = omega arith in
     let at : node ≡ get_or from c.args.edge 0 = c.index-node.ensures ∙ get_or_default_zero from c.args.edge node in_from in
     let lt : node < length c.args.self.now.places.items =
     omega (arith, at, c.requires.graph.from_nodes c.args.edge in_from, c.requires.search.all_nodes) in
-    kept_more c.args.self.now _ node c.len.result lt refl c.in_ok-push.ensures.items
+    kept_more c.args.self.now _ node c.len.result lt refl c.in_ok-push_row.ensures.first
 
-pub returns-in_ok-push-3-clause-found : goal.returns-in_ok-push-3-clause-found
-returns-in_ok-push-3-clause-found c =
+pub returns-in_ok-push_row-clause-found : goal.returns-in_ok-push_row-clause-found
+returns-in_ok-push_row-clause-found c =
     let from = c.args.graph.now.from.items in
     let node = c.index-node.result.now in
     let in_from : c.args.edge < length from = omega arith in

@@ -1,14 +1,15 @@
 use Rattle.std.proofs.Common.{rules}
 use Rattle.relation_terms.proofs.Stays.{extends_on}
 use Rattle.variable_tables.proofs.Grows.{lawful_grows}
-use Rattle.relation_rows.proofs.Related.{form_in, related_known}
+use Rattle.text_asking.proofs.RelatedLemmas.{related_known}
+use Rattle.relation_rows.proofs.Related.{form_in}
 use Rattle.relation_rows.proofs.calls.relating.write_traits.Goals as goal
 
 pub relate-answer-requires : goal.relate-answer-requires
 relate-answer-requires g c = record {
   can = record {
-    lawful = lawful_grows (extends_on c.empty_param_env.ensures.grown c.make_byte_ref.ensures.grown) c.in_ok-ctx.ctx.inner
-        c.in_ok-ctx.ensures.lawful;
+    lawful = lawful_grows (extends_on c.empty_param_env.ensures.grown c.make_byte_ref.ensures.grown)
+        c.args.ctx.now.inner c.requires;
     decides = search rules;
     env_known = search rules;
     lhs_known = search rules;

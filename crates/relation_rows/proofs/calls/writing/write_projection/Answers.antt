@@ -5,8 +5,8 @@ use Rattle.relation_terms.proofs.Edits.{known_behind}
 use Rattle.relation_terms.proofs.Stays.{knows_args}
 use Rattle.relation_rows.proofs.calls.writing.write_projection.Goals as goal
 
-pub write_list-requires : goal.write_list-requires
-write_list-requires g c =
+pub write_args-requires : goal.write_args-requires
+write_args-requires g c =
     let m = g.I.Interner.meaning c.trait_ref.new.cx in
     let args = c.in_ok-args.args in
     subst (λ t. IsTrue (known t)) (sym c.own_args.ensures)

@@ -1,0 +1,164 @@
+//! Whether a goal follows from a program's impls and from what is assumed, and how that is told.
+ghost use Rattle.std.specs.Prelude.{IfOk, IfSome};
+ghost use Rattle.std.specs.List.{All};
+ghost use Rattle.relation_terms.specs.Meaning.{Extends};
+ghost use Rattle.text_proving.specs.Made.{KnowsClause, KnowsMade};
+ghost use Rattle.variable_tables.specs.Tables.{IsLawful};
+ghost use Rattle.text_asking.specs.Asking.{AllReady, KnowsAnswer, KnowsRelated};
+ghost use Rattle.text_asking.specs.Proofs.{KnowsProof};
+
+use crate::elaborating::clauses_of;
+use crate::environment::environment_of;
+use crate::fits::{have_needed, needs_of};
+use crate::printing::{write_bound, write_constraints, write_tainted};
+use crate::question::{Answer, Outcome, Ready, Unasked};
+use may_relate::named_in;
+use relation_reference::context::RefCtxt;
+use relation_terms::terms::{Binder, Clause, ClauseKey, ClausesKey, Interner, Keys, ParamEnvKey};
+use std::fmt::{self, Write};
+use text_clauses::building::build_clause;
+use text_proving::proving::{ProofResult, ask_proof, proof_text};
+use text_proving::rules::{RuleOf, rule_of, rules_held};
+use text_reading::naming::{Impl, Parts};
+use text_terms::building::variables_at;
+use text_terms::printing::TextsOf;
+
+// What is asked: whether a goal follows from rules in an environment.
+#[derive(Drop)]
+struct Proof<X: Copy> {
+    rules: Vec<Binder<X, ClausesKey<X>>>,
+    param_env: ParamEnvKey<X>,
+    goal: ClauseKey<X>,
+}
+
+// The same over an interner's keys.
+type ProofOf<I> = Proof<<I as Keys>::Key>;
+
+// The clause of a predicate of a program.
+fn goal_of<I: Interner>(cx: &mut I, terms: &Ready<I>, number: usize) -> Option<Clause<I>>
+    requires { AllReady (I.meaning cx.old) terms.now }
+    ensures grown { Extends (I.meaning cx.old) (I.meaning cx.new) }
+    ensures sure { IfSome result (KnowsClause (I.meaning cx.new)) }
+{
+    let clause = terms.clauses.get(number)?;
+    build_clause(cx, terms.ids, terms.names, terms.parts, terms.built, clause)
+}
+
+// The rule of an impl of a program.
+fn rule_at<I: Interner>(cx: &mut I, terms: &Ready<I>, said: &Impl) -> Option<RuleOf<I>>
+    requires { AllReady (I.meaning cx.old) terms.now }
+    ensures grown { Extends (I.meaning cx.old) (I.meaning cx.new) }
+    ensures sure { IfSome result (KnowsMade (I.meaning cx.new)) }
+{
+    let variables = variables_at(&*cx, terms.parts, terms.built, said.variables)?;
+    let clauses = clauses_of(cx, terms, said.clauses)?;
+    match rule_of(cx, &variables, &clauses) {
+        Ok(rule) => Some(rule),
+        Err(_) => None,
+    }
+}
+
+// A rule for each predicate that is assumed.
+fn held_of<I: Interner>(cx: &mut I, terms: &Ready<I>, assumed: Parts) -> Option<Vec<RuleOf<I>>>
+    requires { AllReady (I.meaning cx.old) terms.now }
+    ensures grown { Extends (I.meaning cx.old) (I.meaning cx.new) }
+    ensures sure { IfSome result (λ made. All (KnowsMade (I.meaning cx.new)) made.items) }
+{
+    let clauses = clauses_of(cx, terms, assumed)?;
+    match rules_held(cx, &clauses) {
+        Ok(rules) => Some(rules),
+        Err(_) => None,
+    }
+}
+
+// The rules of what is assumed, and those of a program's first impls.
+fn rules_of<I: Interner>(
+    cx: &mut I,
+    terms: &Ready<I>,
+    assumed: Parts,
+    impls: usize,
+) -> Option<Vec<RuleOf<I>>>
+    requires { AllReady (I.meaning cx.old) terms.now }
+    ensures grown { Extends (I.meaning cx.old) (I.meaning cx.new) }
+    ensures sure { IfSome result (λ made. All (KnowsMade (I.meaning cx.new)) made.items) }
+{
+    let list = terms.impls.get(..impls)?;
+    let mut made = held_of(cx, terms, assumed)?;
+    for said in list {
+        let next = rule_at(cx, terms, said)?;
+        if made.push(next).is_err() {
+            return None;
+        }
+    }
+    Some(made)
+}
+
+// What a question asks: the number of the goal's predicate, and how many impls stand before it.
+fn proof_of<I: Interner>(
+    cx: &mut I,
+    terms: &Ready<I>,
+    assumed: Parts,
+    goal: usize,
+    impls: usize,
+) -> Option<ProofOf<I>>
+    requires { AllReady (I.meaning cx.old) terms.now }
+    ensures grown { Extends (I.meaning cx.old) (I.meaning cx.new) }
+    ensures sure { IfSome result (KnowsProof (I.meaning cx.new)) }
+{
+    let goal = goal_of(cx, terms, goal)?;
+    let rules = rules_of(cx, terms, assumed, impls)?;
+    let Ok(param_env) = environment_of(cx, terms, assumed) else {
+        return None;
+    };
+    Some(Proof {
+        rules,
+        param_env,
+        goal,
+    })
+}
+
+// Asks in a context whether a predicate follows within a depth, by its number, from a program's first impls and from
+// what is assumed.
+pub(super) fn ask_proved<I: Interner>(
+    ctx: &mut RefCtxt<I>,
+    terms: &Ready<I>,
+    assumed: Parts,
+    goal: usize,
+    impls: usize,
+    depth: usize,
+) -> Outcome<I>
+    requires lawful { IsLawful (I.meaning ctx.old.interner) ctx.old.inner }
+    requires ready { AllReady (I.meaning ctx.old.interner) terms.now }
+    ensures lawful { IsLawful (I.meaning ctx.new.interner) ctx.new.inner }
+    ensures grown { Extends (I.meaning ctx.old.interner) (I.meaning ctx.new.interner) }
+    ensures known { let m = I.meaning ctx.new.interner in
+        IfOk result (KnowsAnswer m (KnowsRelated m)) }
+{
+    let Some(proof) = proof_of(&mut ctx.interner, terms, assumed, goal, impls) else {
+        return Err(Unasked::Memory);
+    };
+    let needs = needs_of(named_in(&ctx.interner, &proof.goal));
+    let Ok(()) = have_needed(ctx, &needs) else {
+        return Err(Unasked::Memory);
+    };
+    match ask_proof(ctx, &proof.rules, proof.param_env, &proof.goal, depth) {
+        Ok(told) => Ok(Answer::Proved(told)),
+        Err(why) => Err(Unasked::Proof(why)),
+    }
+}
+
+// Writes what is told of a goal, and then what the context has recorded: constraints on regions, and roots that are
+// bound.
+pub(super) fn write_proved<I: Interner, W: Write>(
+    ctx: &RefCtxt<I>,
+    texts: &TextsOf<I>,
+    told: &ProofResult<I>,
+    out: &mut W,
+) -> fmt::Result
+    requires { IsLawful (I.meaning ctx.now.interner) ctx.now.inner }
+{
+    out.write_str(proof_text::<I>(told))?;
+    write_constraints(ctx, texts, out)?;
+    write_bound(ctx, texts, out)?;
+    write_tainted(ctx, out)
+}

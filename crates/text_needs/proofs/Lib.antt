@@ -1,4 +1,0 @@
-pub mod BindingLemmas
-pub mod UseLemmas
-pub mod BoundLemmas
-pub mod NeedLemmas

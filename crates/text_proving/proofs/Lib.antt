@@ -1,0 +1,4 @@
+mod Closing
+mod Serving
+pub mod Making
+pub mod Implying

@@ -1,0 +1,5 @@
+pub mod Closed
+pub mod Made
+pub mod Implied
+pub mod Asked
+pub mod Texts

@@ -1,0 +1,9 @@
+//! What a text's impls imply, and what it assumes: rules that are made of clauses, and whether a goal follows from them
+//! where that may be asked.
+#![tactic(auto)]
+
+mod closed;
+pub mod implied;
+pub mod proving;
+mod refusing;
+pub mod rules;

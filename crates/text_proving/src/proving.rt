@@ -1,0 +1,90 @@
+//! Whether a goal follows from rules, where that may be asked, and how what is told of it is written.
+ghost use Rattle.std.specs.Prelude.{◌≡◌, IsTrue, IfOk, OnErr};
+ghost use Rattle.std.specs.List.{All};
+ghost use Rattle.relation_terms.specs.Trees.{known};
+ghost use Rattle.relation_terms.specs.Meaning.{Extends};
+ghost use Rattle.relation_semantics.specs.Contexts.{KnowsEnv};
+ghost use Rattle.relation_semantics.specs.Steps.{IsLater};
+ghost use Rattle.relation_proving.specs.Answers.{YesDerives, YesMakesFollow, YesLosesNone};
+ghost use Rattle.relation_proving.specs.Answers.{NoFollowsNever, LeavesNothing};
+ghost use Rattle.relation_proving.specs.RuleTerms.{KnowsRule, IsClosedRule};
+ghost use Rattle.text_proving.specs.Texts.{proof_text};
+
+pub use crate::refusing::WhyNot;
+use crate::refusing::refusal;
+use kept_records::KeepsRecord;
+use may_relate::{HasVariables, Unfit};
+use relation_folds::error::{RelateFault, RelateResult};
+use relation_proving::opening::RuleOf;
+use relation_proving::proving::{Told, Why, prove};
+use relation_terms::terms::{Clause, Interner, ParamEnv};
+use std::fmt::{self, Write};
+
+/// What comes of asking whether a goal follows.
+pub type ProofResult<I> = RelateResult<I, Told>;
+
+/// Whether a goal follows from rules in a context, within a depth, as `prove` tells. The interner knows the rules, the
+/// environment and the goal.
+///
+/// # Errors
+/// What stands in the way of asking: then the context is as it was.
+#[tactic(auto, using(relation_terms::proofs::Stays::stays_same))]
+pub fn ask_proof<C: HasVariables + KeepsRecord>(
+    ctx: &mut C,
+    rules: &[RuleOf<C::Interner>],
+    param_env: ParamEnv<C::Interner>,
+    goal: &Clause<C::Interner>,
+    depth: usize,
+) -> Result<ProofResult<C::Interner>, WhyNot>
+    requires lawful { (C.state ctx.old).lawful }
+    requires env_known { KnowsEnv (C.state ctx.old) param_env }
+    requires rules_known { All (KnowsRule (C.state ctx.old)) rules.now }
+    requires goal_known { IsTrue (known ((C.state ctx.old).meaning.clause goal.now)) }
+    ensures closed { IfOk result (λ told. All (IsClosedRule (C.state ctx.old)) rules.now) }
+    ensures derives { IfOk result (YesDerives (C.state ctx.old) (C.state ctx.new) rules.now goal.now param_env) }
+    ensures sound { IfOk result (YesMakesFollow (C.state ctx.old) (C.state ctx.new) rules.now goal.now) }
+    ensures principal { IfOk result (YesLosesNone (C.state ctx.old) (C.state ctx.new) rules.now goal.now) }
+    ensures none { IfOk result (NoFollowsNever (C.state ctx.old) (C.state ctx.new) rules.now goal.now) }
+    ensures back { IfOk result (LeavesNothing (C.state ctx.old) (C.state ctx.new) rules.now goal.now) }
+    ensures unasked { OnErr result (ctx.new ≡ ctx.old) }
+    ensures later { IsLater (C.state ctx.old).store (C.state ctx.new).store }
+    ensures lawful { (C.state ctx.new).lawful }
+    ensures grown { Extends (C.state ctx.old).meaning (C.state ctx.new).meaning }
+{
+    if let Some(why) = refusal(&*ctx, rules, goal) {
+        return Err(why);
+    }
+    let span = ctx.cx().dummy_span();
+    Ok(prove(ctx, rules, param_env, goal, depth, span))
+}
+
+/// How what is told of a goal is written, or why nothing is.
+pub fn proof_text<I: Interner>(proof: &ProofResult<I>) -> &'static str
+    ensures { result.now ≡ proof_text proof.now }
+{
+    match proof {
+        Ok(Told::Yes) => "yes",
+        Ok(Told::No) => "no",
+        Ok(Told::Maybe(Why::Ambiguous)) => "maybe: ambiguous",
+        Ok(Told::Maybe(Why::Depth)) => "maybe: depth",
+        Err(RelateFault::Memory) => "memory",
+        Err(RelateFault::Budget) => "budget",
+        Err(RelateFault::Unrelated(_)) => "unrelated",
+    }
+}
+
+/// Writes why a goal is not asked about.
+///
+/// # Errors
+/// `fmt::Error` where `out` refused to take some of the text. What it took before stands.
+pub fn write_unasked<W: Write>(why: WhyNot, out: &mut W) -> fmt::Result {
+    out.write_str("not asked: ")?;
+    match why {
+        WhyNot::Open => out.write_str("a variable stands in an impl or in what is assumed"),
+        WhyNot::NoTrait => out.write_str("it is asked of traits alone"),
+        WhyNot::Unfit(Unfit::LaterUniverse(_)) => {
+            out.write_str("the context's universe does not name the placeholder")
+        }
+        WhyNot::Unfit(_) => out.write_str("a binder does not bind by its list"),
+    }
+}

@@ -1,0 +1,110 @@
+//! Why a goal is not asked about, if it may not be: what the solver wants of rules and of a goal is tested.
+ghost use Rattle.std.specs.Prelude.{IsTrue, IfNone};
+ghost use Rattle.std.specs.List.{All};
+ghost use Rattle.relation_terms.specs.Trees.{known};
+ghost use Rattle.relation_proving.specs.Candidates.{MayAsk};
+ghost use Rattle.relation_proving.specs.RuleTerms.{KnowsRule};
+ghost use Rattle.text_proving.specs.Asked.{clause_under, FitsUnder, MayServe};
+
+use crate::closed::are_closed;
+use may_relate::{HasVariables, Unfit, may_relate};
+use relation_proving::opening::RuleOf;
+use relation_terms::predicate::as_trait_clause;
+use relation_terms::terms::{Binder, BoundVars, Clause, Interner};
+
+/// Why a goal is not asked about.
+#[derive(Clone, Copy)]
+pub enum WhyNot {
+    /// An inference variable stands in an impl or in what is assumed, or a stand-in for one.
+    Open,
+    /// The goal, or what an impl gives or asks for, or what is assumed, is not that a trait is implemented.
+    NoTrait,
+    /// One of them may not be related in the context.
+    Unfit(Unfit),
+}
+
+// Why a clause of a rule is not asked about under the rule's binder, if it may not be.
+fn clause_refusal<C: HasVariables>(
+    ctx: &C,
+    bound_vars: BoundVars<C::Interner>,
+    clause: &Clause<C::Interner>,
+) -> Option<WhyNot>
+    requires { IsTrue (known (clause_under (C.state ctx.now) bound_vars clause.now)) }
+    ensures { IfNone result (FitsUnder (C.state ctx.now) bound_vars clause.now) }
+{
+    let cx = ctx.cx();
+    let Some(value) = as_trait_clause(cx, clause) else {
+        return Some(WhyNot::NoTrait);
+    };
+    let form = Binder { value, bound_vars };
+    match may_relate(ctx, &form) {
+        Ok(()) => None,
+        Err(unfit) => Some(WhyNot::Unfit(unfit)),
+    }
+}
+
+// Why a rule is not asked about, if it may not be.
+fn rule_refusal<C: HasVariables>(ctx: &C, rule: &RuleOf<C::Interner>) -> Option<WhyNot>
+    requires { KnowsRule (C.state ctx.now) rule.now }
+    ensures { IfNone result (MayServe (C.state ctx.now) rule.now) }
+{
+    let cx = ctx.cx();
+    if !are_closed(cx, &rule.value) {
+        return Some(WhyNot::Open);
+    }
+    let list = cx.clauses(&rule.value);
+    for clause in list {
+        if let Some(why) = clause_refusal(ctx, rule.bound_vars, clause) {
+            return Some(why);
+        }
+    }
+    None
+}
+
+// Why rules are not asked about, if one may not be.
+fn rules_refusal<C: HasVariables>(ctx: &C, rules: &[RuleOf<C::Interner>]) -> Option<WhyNot>
+    requires { All (KnowsRule (C.state ctx.now)) rules.now }
+    ensures { IfNone result (All (MayServe (C.state ctx.now)) rules.now) }
+{
+    for rule in rules {
+        if let Some(why) = rule_refusal(ctx, rule) {
+            return Some(why);
+        }
+    }
+    None
+}
+
+// Why a goal is not asked about, if it may not be.
+fn goal_refusal<C: HasVariables>(ctx: &C, goal: &Clause<C::Interner>) -> Option<WhyNot>
+    requires { IsTrue (known ((C.state ctx.now).meaning.clause goal.now)) }
+    ensures { IfNone result (MayAsk (C.state ctx.now) goal.now) }
+{
+    let cx = ctx.cx();
+    let Some(form) = as_trait_clause(cx, goal) else {
+        return Some(WhyNot::NoTrait);
+    };
+    match may_relate(ctx, &form) {
+        Ok(()) => None,
+        Err(unfit) => Some(WhyNot::Unfit(unfit)),
+    }
+}
+
+/// Why it is not asked whether a goal follows from rules, if it may not be.
+pub(crate) fn refusal<C: HasVariables>(
+    ctx: &C,
+    rules: &[RuleOf<C::Interner>],
+    goal: &Clause<C::Interner>,
+) -> Option<WhyNot>
+    requires rules_known { All (KnowsRule (C.state ctx.now)) rules.now }
+    requires goal_known { IsTrue (known ((C.state ctx.now).meaning.clause goal.now)) }
+    ensures rules { IfNone result (All (MayServe (C.state ctx.now)) rules.now) }
+    ensures goal { IfNone result (MayAsk (C.state ctx.now) goal.now) }
+{
+    if let Some(why) = rules_refusal(ctx, rules) {
+        return Some(why);
+    }
+    if let Some(why) = goal_refusal(ctx, goal) {
+        return Some(why);
+    }
+    None
+}
