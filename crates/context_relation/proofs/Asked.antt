@@ -14,19 +14,13 @@ use Rattle.relation_semantics.specs.Asking.{HasNoAlias}
 use Rattle.relation_semantics.specs.Contexts.{Context}
 use Rattle.relation_semantics.specs.Lawful.{items_of}
 use Rattle.relation_semantics.specs.Relation.{Items, Interpretation, Rel, at, parts, no_parts, next_part, part_at, IsValueLeaf}
-use Rattle.relation_semantics.proofs.Asking.{no_alias_term, nothing_at_bivariance}
+use Rattle.relation_semantics.proofs.Asking.{no_alias_term, nothing_at_bivariance, no_alias_nth}
 use Rattle.relation_semantics.proofs.Related.{region_of, forms_inverted}
 use Rattle.context_relation.specs.Completing.{IsSoWanted, RelatesWhereAsked}
 use Rattle.context_relation.specs.Relating.{term_in, RelatesAgreeing}
 use Rattle.relation_combining.specs.Solving.{solver_settings}
 use Rattle.context_relation.proofs.AskedGoals.{rule_holds, agreeing_related}
 use Rattle.context_relation.proofs.Shapes.{IsShaped, shaped}
-
--- Parts have no alias, no variable and the shape of terms where the whole has.
-no_alias_nth : (i : ℕ) (ts : Tree) → HasNoAlias ts → HasNoAlias (nth i ts)
-no_alias_nth zero (cons t ts) h = h.0
-no_alias_nth (suc i) (cons t ts) h = no_alias_nth i ts h.1
-no_alias_nth i ts h = tt
 
 value_nth : (i : ℕ) (ts : Tree) → i < count ts → Leaves IsValueLeaf ts → Leaves IsValueLeaf (nth i ts)
 value_nth zero (cons t ts) l h = h.0

@@ -23,7 +23,7 @@ use Rattle.reference_interner.specs.Stated.{ItemStatesOwn, AllStated}
 use Rattle.reference_interner.proofs.TableLemmas.{extends_node}
 
 -- A tree that is known and its own is so where it stays.
-own_stays : (t u : Tree) → (IsTrue (known t) → u ≡ t) → IsTrue (known t) × IsOwn t → IsTrue (known u) × IsOwn u
+pub own_stays : (t u : Tree) → (IsTrue (known t) → u ≡ t) → IsTrue (known t) × IsOwn t → IsTrue (known u) × IsOwn u
 own_stays t u e h = subst (λ v. IsTrue (known v) × IsOwn v) (sym (e h.0)) h
 
 module _ {m n : Meaning NodeKey ItemId SymbolId} (e : Extends m n) where

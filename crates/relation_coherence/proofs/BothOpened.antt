@@ -1,15 +1,15 @@
 -- Two headers, opened one after the other.
-use Rattle.std.proofs.Common.{◌≡◌, ◌+◌, refl, sym, subst, List, take, Option, Some, None, IsTrue, arith}
+use Rattle.std.proofs.Common.{◌≡◌, ◌+◌, refl, sym, subst, List, Option, Some, None, IsTrue, arith}
 use Rattle.relation_terms.specs.declared.terms.binder.Binder.{Binder}
 use Rattle.relation_terms.specs.declared.terms.keys.ArgsKey.{ArgsKey}
 use Rattle.relation_terms.specs.Heads.{BoundKind, arguments}
-use Rattle.relation_terms.specs.Trees.{Tree, leaf, node, bind, nil, cons, known}
+use Rattle.relation_terms.specs.Trees.{Tree, node, known}
 use Rattle.relation_terms.specs.Meaning.{Meaning, Extends, under}
 use Rattle.relation_terms.proofs.Binders.{under_known, under_stays}
-use Rattle.relation_semantics.specs.Bound.{BindsByList, IsWellBound}
-use Rattle.relation_semantics.specs.Binders.{InstantiatesAs, MakesFirst}
+use Rattle.relation_semantics.specs.Bound.{IsWellBound}
+use Rattle.relation_semantics.specs.Binders.{InstantiatesAs}
 use Rattle.relation_semantics.specs.Contexts.{Context}
-use Rattle.relation_semantics.specs.OpeningLaws.{MakingEachMakes, InstantiatingEachOpens, InstantiatedBodyIsIn, InstantiatedBodyBinds}
+use Rattle.relation_semantics.specs.OpeningLaws.{InstantiatingEachOpens, InstantiatedBodyIsIn, InstantiatedBodyBinds}
 use Rattle.relation_semantics.specs.OneUniverse.{HasOneUniverse, all_unbound}
 use Rattle.relation_semantics.specs.Steps.{IsLater, InstantiatesBinder}
 use Rattle.relation_semantics.specs.Stores.{Store, InContext, IsTermIn, IsSound}
@@ -19,14 +19,6 @@ use Rattle.relation_coherence.specs.Bounds.{types_bound}
 use Rattle.relation_coherence.proofs.Bounding.{each_unresolved, each_of_universe}
 use Rattle.relation_coherence.specs.Headers.{header_tree, KnowsHeader, TakesHeader, HasHeader, OpensHeaders}
 
--- A binder that binds by its list, as all binders in a term do.
-pub binds_by_list : (t : Tree) → IsWellBound t → BindsByList t
-binds_by_list (leaf l) h = tt
-binds_by_list (node a t) h = tt
-binds_by_list (bind ks t) h = h.0
-binds_by_list nil h = tt
-binds_by_list (cons t ts) h = tt
-
 -- What is a term of the context is one as a list of arguments too.
 pub arguments_in : (st : Store) (t : Tree) → IsTermIn st t → IsTermIn st (node arguments t)
 unfolding IsTermIn InContext
@@ -35,12 +27,6 @@ arguments_in st t h = h
 pub from_arguments : (st : Store) (t : Tree) → IsTermIn st (node arguments t) → IsTermIn st t
 unfolding IsTermIn InContext
 from_arguments st t h = h
-
--- Where a growth was refused the record comes of that before still.
-pub refused_later : MakingEachMakes → (before after : Store) (ks : List BoundKind) → IsSound before →
-    MakesFirst before.universe before ks after → IsLater before after
-refused_later makes before after ks g f =
-    (makes before after before.universe (take f.0 ks) f.1 f.2 (omega arith) g).later
 
 -- The list of a header, and its body opened.
 record Opened (before after : Store) (o : Option (List BoundKind)) (t x : Tree) : Type 0 where

@@ -8,7 +8,7 @@ use Rattle.relation_semantics.specs.Relation.{Interpretation, all_outlive, FitKi
 use Rattle.relation_semantics.specs.Stores.{Store, Constraint, outlives_constraint, equal_constraint, InContext}
 use Rattle.relation_semantics.specs.Stores.{IsSound, Satisfies, ConstraintHolds, BindingsAreMet, IsAssignment}
 use Rattle.relation_semantics.specs.Stores.{resolved, IsNamable}
-use Rattle.relation_semantics.specs.FirstOrder.{IsErasedSolution, Unifies}
+use Rattle.relation_semantics.specs.FirstOrder.{Unifies}
 use Rattle.relation_semantics.specs.Steps.{InstantiatesBinder, HasExtension, AllNamable}
 use Rattle.relation_semantics.specs.Outcomes.{NoEqualTerms, NoUnifier, Exact}
 use Rattle.relation_semantics.specs.StepLaws.{InstantiatingAssigns}
@@ -18,6 +18,7 @@ use Rattle.relation_semantics.proofs.Values.{same_value}
 use Rattle.fast_reject.specs.Instances.{IsNoVariable}
 use Rattle.relation_laws.specs.SolutionLaws.{NewVariablesFit}
 use Rattle.relation_coherence.specs.Overlaps.{IsInstanceOf, AreApart, AreApartErased, Covers, IsCommon}
+use Rattle.relation_semantics.proofs.Erased.{erased}
 
 -- A term without variables is its own value.
 closed_leaf : (s : Assign) (l : Leaf) → IsNoVariable l → assigned s l ≡ leaf l
@@ -54,10 +55,6 @@ free_holds s (equal_constraint a b) = (all_outlive refl, all_outlive refl)
 
 all_hold : (s : Assign) (qs : List Constraint) → All (ConstraintHolds free s) qs
 all_hold s qs = λ k d i. free_holds s (get_or qs k d)
-
--- What satisfies a store's bindings satisfies them up to erasure.
-pub erased : (w : Interpretation) (st : Store) (s : Assign) → Satisfies w st s → IsErasedSolution st s
-erased w st s h = (h.assigns, λ k n t e. ap erase (h.bindings k n t e))
 
 module _ (instantiating : InstantiatingAssigns) where
   -- The value of an opened body.

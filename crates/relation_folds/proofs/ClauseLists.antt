@@ -22,7 +22,7 @@ firsts_next i (node g ts) h = absurd (omega arith)
 firsts_next i (bind ks t) h = absurd (omega arith)
 firsts_next i nil h = absurd (omega arith)
 
-firsts_list : (i : ℕ) (ts : Tree) → IsList (firsts i ts)
+pub firsts_list : (i : ℕ) (ts : Tree) → IsList (firsts i ts)
 firsts_list zero ts = tt
 firsts_list (suc i) (cons t ts) = firsts_list i ts
 firsts_list (suc i) (leaf l) = tt

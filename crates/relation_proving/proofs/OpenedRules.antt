@@ -1,6 +1,6 @@
 -- A rule that was opened: its clauses, and the variables that they were opened by.
-use Rattle.std.proofs.Common.{◌≡◌, ℕ, List, [], ◌∷◌, refl, sym, ◌∙◌, ap, ap₂, subst, map, take, All, Option, Some, None}
-use Rattle.std.proofs.Common.{IsTrue, arith}
+use Rattle.std.proofs.Common.{◌≡◌, ℕ, List, [], ◌∷◌, refl, sym, ◌∙◌, ap, ap₂, subst, map, All, Option, Some, None}
+use Rattle.std.proofs.Common.{IsTrue}
 use Rattle.std.specs.Prelude.{IfOk, Result, Ok, Err}
 use Rattle.std.specs.Global.{Vec}
 use Rattle.std.proofs.lemmas.Bool.{and_parts}
@@ -9,34 +9,20 @@ use Rattle.relation_terms.specs.declared.terms.binder.Binder.{Binder}
 use Rattle.relation_terms.specs.declared.terms.keys.ClauseKey.{ClauseKey}
 use Rattle.relation_terms.specs.declared.terms.keys.ClausesKey.{ClausesKey}
 use Rattle.relation_terms.specs.Heads.{BoundKind}
-use Rattle.relation_terms.specs.Trees.{Tree, leaf, node, bind, nil, cons, list_tree, inst, known, Leaves}
+use Rattle.relation_terms.specs.Trees.{Tree, bind, cons, list_tree, inst, known, Leaves}
 use Rattle.relation_terms.specs.Meaning.{Meaning, under}
 use Rattle.relation_terms.proofs.Paths.{first_path, rest_path}
 use Rattle.relation_semantics.specs.Relation.{IsValueLeaf}
-use Rattle.relation_semantics.specs.Binders.{InstantiatesAs, MakesFirst}
-use Rattle.relation_semantics.specs.Bound.{BindsByList, IsWellBound}
+use Rattle.relation_semantics.specs.Binders.{InstantiatesAs}
+use Rattle.relation_semantics.specs.Bound.{IsWellBound}
 use Rattle.relation_semantics.specs.Contexts.{Context}
-use Rattle.relation_semantics.specs.OpeningLaws.{MakingEachMakes, InstantiatingEachOpens, InstantiatedBodyIsIn, InstantiatedBodyBinds}
+use Rattle.relation_semantics.specs.OpeningLaws.{InstantiatingEachOpens, InstantiatedBodyIsIn, InstantiatedBodyBinds}
 use Rattle.relation_semantics.specs.Steps.{IsLater}
 use Rattle.relation_semantics.specs.Stores.{Store, InContext, IsTermIn, IsSound}
 use Rattle.relation_semantics.proofs.Standing.{term_context}
 use Rattle.relation_solver.specs.Rules.{Rule}
 use Rattle.relation_solver.specs.Traces.{Opens}
 use Rattle.relation_proving.specs.RuleTerms.{IsRule, rule_tree, TakesRule, HasRule, IsClosedRule, OpensRule}
-
--- A binder that binds by its list, as all binders in a term do.
-pub binds_by_list : (t : Tree) → IsWellBound t → BindsByList t
-binds_by_list (leaf l) h = tt
-binds_by_list (node a t) h = tt
-binds_by_list (bind ks t) h = h.0
-binds_by_list nil h = tt
-binds_by_list (cons t ts) h = tt
-
--- Where a growth was refused the record comes of that before still.
-pub refused_later : MakingEachMakes → (before after : Store) (ks : List BoundKind) → IsSound before →
-    MakesFirst before.universe before ks after → IsLater before after
-refused_later makes before after ks g f =
-    (makes before after before.universe (take f.0 ks) f.1 f.2 (omega arith) g).later
 
 -- A list of terms as a tree: putting terms for what a binder binds, and what the tree is a list of.
 list_opened : (vs : List Tree) (d : ℕ) (ts : List Tree) →

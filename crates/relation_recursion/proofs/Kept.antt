@@ -7,7 +7,7 @@ use Rattle.relation_terms.specs.declared.terms.generic_arg.GenericArgKind.{Gener
 use Rattle.relation_terms.specs.declared.terms.part_kind.Part.{Part}
 use Rattle.relation_terms.specs.Heads.{Head}
 use Rattle.relation_terms.specs.Parts.{part_sort, tree_sort, Fit}
-use Rattle.relation_terms.specs.Trees.{Tree, leaf, node, bind, nil, cons, apply, known, list_tree, count, nth, IsList, IsTerm}
+use Rattle.relation_terms.specs.Trees.{Tree, leaf, node, bind, nil, cons, apply, known, list_tree, count, nth, IsTerm}
 use Rattle.relation_terms.proofs.Members.{known_with_last}
 use Rattle.relation_terms.proofs.Stays.{stays_list}
 use Rattle.relation_folds.specs.declared.error.RelateFault.{RelateFault}
@@ -22,6 +22,8 @@ use Rattle.relation_recursion.specs.Keeping.{AreFirstParts, KeepsAnswer, none_ke
 use Rattle.relation_recursion.specs.Keeping.{KeepsResult, answer_kept, error_handed, no_memory}
 use Rattle.relation_recursion.proofs.InOrder.{part_pushed}
 use Rattle.relation_recursion.proofs.MadeAnew.{fit_pushed}
+use Rattle.relation_folds.proofs.ClauseLists.{firsts_list}
+use Rattle.relation_semantics.proofs.GeneralisingParts.{count_firsts}
 
 -- A list that is not empty has a member.
 some_counted : {K : Type 0} (n : ℕ) (xs : List K) → n ≡ length xs → (n ≡ 0 → ⊥) → 0 < length xs
@@ -40,23 +42,6 @@ none_in v e = none_counted v.items (sym v.ok.0 ∙ eqb-true (vec_len v) 0 (sym e
 
 pub none_kept_yet : {K : Type 0} {xs : List K} → xs ≡ [] → 0 < length xs → ⊥
 none_kept_yet e l = let n = ap length e in omega (arith, n, l)
-
--- How many of a list of trees there are at least, and which.
-firsts_list : (i : ℕ) (ts : Tree) → IsList (firsts i ts)
-firsts_list zero ts = tt
-firsts_list (suc i) (cons t ts) = firsts_list i ts
-firsts_list (suc i) (leaf l) = tt
-firsts_list (suc i) (node g ts) = tt
-firsts_list (suc i) (bind ks t) = tt
-firsts_list (suc i) nil = tt
-
-firsts_counted : (i : ℕ) (ts : Tree) → i ≤ count ts → count (firsts i ts) ≡ i
-firsts_counted zero ts l = refl
-firsts_counted (suc i) (cons t ts) l = ap suc (firsts_counted i ts (omega (arith, l)))
-firsts_counted (suc i) (leaf x) l = absurd (omega (arith, l))
-firsts_counted (suc i) (node g ts) l = absurd (omega (arith, l))
-firsts_counted (suc i) (bind ks t) l = absurd (omega (arith, l))
-firsts_counted (suc i) nil l = absurd (omega (arith, l))
 
 firsts_nth : (i j : ℕ) (ts : Tree) → i ≤ count ts → j < i → nth j (firsts i ts) ≡ nth j ts
 firsts_nth zero j ts l m = absurd (omega (arith, m))
@@ -123,7 +108,7 @@ module _ {Key Id Name : Type 0} (M : Manners) where
   answers_first q h v i ts l k = record {
     is_list = firsts_list i ts;
     sure = k;
-    counted = firsts_counted i ts l;
+    counted = count_firsts i ts l;
     related = λ j m. λ w s sat all. same (ap (apply s) (sym (firsts_nth i j ts l m)));
   }
 

@@ -7,10 +7,11 @@ use Rattle.relation_terms.specs.Trees.{Tree, leaf, node, bind, nil, cons, Assign
 use Rattle.term_enums.specs.Variances.{xform}
 use Rattle.relation_terms.specs.Erasure.{erase, erase_atom, erase_kinded, kept_parts}
 use Rattle.relation_semantics.specs.Relation.{Items, Interpretation, parts, Rel, at, same, anything, error_left, error_right, regions, alias_types, equal_consts, atoms, forms, no_parts, next_part, covariant_binders, contravariant_binders, invariant_binders, part_at, plain, plain_atom, sort_of, IsError, IsErrorAtom, IsAlias, IsAliasHead, AliasRule}
-use Rattle.relation_semantics.specs.FirstOrder.{IsFirstOrder, IsFirstOrderHead, IsFirstOrderAtom, IsClosedLeaf}
+use Rattle.relation_semantics.specs.FirstOrder.{IsFirstOrder, IsFirstOrderHead, IsFirstOrderAtom, IsClosedLeaf, IsErasedSolution}
 use Rattle.relation_semantics.specs.ErasureLaws.{ErasureAssigns, FormsUnifyByParts, TypesOfValuesUnify, ListsUnifyByItems, UnlikeFormsDoNotUnify, IsTypeOrConst, ErasedOccursCheck, InvariantTermsAreAlike}
 use Rattle.relation_semantics.proofs.Related.{no_region_head}
 use Rattle.relation_terms.proofs.Paths.{leaf_path, parts_path}
+use Rattle.relation_semantics.specs.Stores.{Store, Satisfies}
 
 pub keeps_parts : (h : Head) (ts : Tree) → h ≢ value_type → kept_parts h ts ≡ ts
 keeps_parts value_type ts n = absurd (n refl)
@@ -179,3 +180,7 @@ mutual
 
 pub invariant_terms_are_alike : InvariantTermsAreAlike
 invariant_terms_are_alike c w e a b r f g = erased refl r f g
+
+-- What satisfies what is recorded satisfies it up to erasure.
+pub erased : (w : Interpretation) (st : Store) (s : Assign) → Satisfies w st s → IsErasedSolution st s
+erased w st s h = (h.assigns, λ k n t e. ap erase (h.bindings k n t e))

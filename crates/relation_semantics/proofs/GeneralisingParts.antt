@@ -21,7 +21,7 @@ pub data PartsDone (al : StructurallyRelateAliases) (c : Items) (start : Store) 
   one_done : {i : ℕ} {q p : Stage} {us x : Tree} → PartsDone al c start k n sd t v r i q us →
       Generalised al c start k n (any_part sd (variance_of_part c t i v)) q (nth i (parts_of t)) p x → PartsDone al c start k n sd t v r (suc i) p (snoc us x)
 
-count_firsts : (i : ℕ) (ts : Tree) → i ≤ count ts → count (firsts i ts) ≡ i
+pub count_firsts : (i : ℕ) (ts : Tree) → i ≤ count ts → count (firsts i ts) ≡ i
 count_firsts zero ts h = refl
 count_firsts (suc i) (cons t ts) h = ap suc (count_firsts i ts (omega (arith, h)))
 count_firsts (suc i) (leaf l) h = absurd (omega (arith, h))

@@ -1,6 +1,6 @@
 -- New variables for what a binder binds, made one after another: what stands, and that they may have any values.
 use Rattle.std.proofs.Common.{◌≡◌, ◌≢◌, ℕ, ◌≤◌, refl, sym, ap, ap₂, ◌∙◌, arith, subst, subst₂, List, []}
-use Rattle.std.proofs.Common.{◌∷◌, ◌++◌, map}
+use Rattle.std.proofs.Common.{◌∷◌, ◌++◌, map, take}
 use Rattle.std.proofs.lemmas.List.{map-append}
 use Rattle.relation_terms.specs.Heads.{type_kind, region_kind, const_kind, BoundKind, bound_kind, bound_sort, VarKind}
 use Rattle.relation_terms.specs.Heads.{var_sort, variable}
@@ -10,7 +10,7 @@ use Rattle.relation_semantics.specs.Stores.{Store, universe_of, IsMade, MayStand
 use Rattle.relation_semantics.specs.Steps.{IsNumberKind, MakesVariable, IsLater, AgreeOn, HasExtension, AllNamable}
 use Rattle.relation_semantics.specs.Steps.{AreNewVariables}
 use Rattle.relation_semantics.specs.Generalising.{MakesUnbound, makes_none as none_made, makes_one}
-use Rattle.relation_semantics.specs.Binders.{variable_kind, MakesEach, makes_none, makes_next}
+use Rattle.relation_semantics.specs.Binders.{variable_kind, MakesEach, makes_none, makes_next, MakesFirst}
 use Rattle.relation_semantics.specs.OpeningLaws.{MakingEachMakes, InstantiatingEachOpens}
 use Rattle.relation_semantics.proofs.Growing.{new_made}
 use Rattle.relation_semantics.proofs.StoreCalls.{made_is_unconstrained}
@@ -198,3 +198,9 @@ instantiating_each_opens before after ks body opened f g = record {
   makes = making_each_makes before after before.universe ks f.variables f.makes (omega arith) g;
   body_is = f.body_is;
 }
+
+-- Where a growth was refused the record comes of that before still.
+pub refused_later : MakingEachMakes → (before after : Store) (ks : List BoundKind) → IsSound before →
+    MakesFirst before.universe before ks after → IsLater before after
+refused_later makes before after ks g f =
+    (makes before after before.universe (take f.0 ks) f.1 f.2 (omega arith) g).later

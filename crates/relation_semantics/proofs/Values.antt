@@ -57,6 +57,18 @@ variables_fit before st s u (k ∷ ks) (x ∷ xs) h p = (variable_fits k x p.0.0
     variable_fits : (k : BoundKind) (x : Tree) (v : VarKind) (n : ℕ) → x ≡ leaf (variable v n) → var_sort v ≡ bound_sort k → IsMade st v n → IsValue (bound_sort k) (apply s x)
     variable_fits k x v n e q m = subst (λ z. IsValue (bound_sort k) (apply s z)) (sym e) (subst (λ z. IsTerm z (s v n)) q (stands_term v (s v n) (h v n m).0), (h v n m).1, (h v n m).2)
 
+-- The values of new variables can be named by the universe that they were made in.
+pub variables_namable : (before st : Store) (s : Assign) (u : ℕ) (ks : List BoundKind) (xs : List Tree) →
+    IsAssignment st s → AreNewVariables before st u ks xs → AllNamable u (map (apply s) xs)
+variables_namable before st s u [] [] h n = tt
+variables_namable before st s u (k ∷ ks) (x ∷ xs) h n = (
+  subst (Leaves (IsNamable u)) (sym (ap (apply s) n.0.2))
+      (subst (λ w. Leaves (IsNamable w) (s n.0.0 n.0.1)) n.0.6 (h n.0.0 n.0.1 n.0.5).3),
+  variables_namable before st s u ks xs h n.2,
+)
+variables_namable before st s u [] (x ∷ xs) h n = absurd n
+variables_namable before st s u (k ∷ ks) [] h n = absurd n
+
 -- Placeholders of a later universe are fresh for values of the earlier one.
 pub fresh_later : (u v : ℕ) (ls : List BoundKind) (ps : List Tree) (a b : Tree) → u < v → ArePlaceholders v ls ps → Leaves (IsNamable u) a → Leaves (IsNamable u) b → Fresh ls ps a b
 fresh_later u v [] [] a b l h p q = tt

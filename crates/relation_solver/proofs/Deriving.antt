@@ -1,26 +1,21 @@
 -- What a solver proves is derived.
-use Rattle.std.proofs.Common.{ℕ, ◌≤◌, le_trans, List, [], ◌∷◌, refl, ap, subst, map, All}
+use Rattle.std.proofs.Common.{ℕ, ◌≤◌, le_trans, List, [], ◌∷◌, refl, subst, map, All}
 use Rattle.term_enums.specs.declared.Variance.TheVariants.{Invariant}
 use Rattle.relation_terms.specs.Trees.{Tree, Assign, apply}
-use Rattle.relation_terms.specs.Erasure.{erase}
 use Rattle.relation_semantics.specs.Relation.{Items, Interpretation, Rel, at}
 use Rattle.relation_semantics.specs.Steps.{AllNamable}
 use Rattle.relation_semantics.specs.Stores.{Store, Satisfies, IsNamable}
 use Rattle.relation_semantics.specs.Goals.{Goal, Holds}
-use Rattle.relation_semantics.specs.FirstOrder.{IsErasedSolution}
 use Rattle.relation_semantics.proofs.Standing.{namable_mono}
 use Rattle.relation_semantics.proofs.Trees.{Leaves_map}
-use Rattle.relation_semantics.proofs.Values.{variables_fit}
+use Rattle.relation_semantics.proofs.Values.{variables_fit, variables_namable}
 use Rattle.relation_solver.specs.Rules.{AreClosed, Rule, Asked, one, all, Derives, derived_by, all_derived, next_derived}
 use Rattle.relation_solver.specs.Traces.{Without, first, later, Proves, took, none_asked, one_of}
 use Rattle.relation_solver.specs.Solving.{ProofsDerive}
 use Rattle.relation_solver.proofs.Alike.{images_without}
-use Rattle.relation_solver.proofs.Opened.{opened_value, opened_values, variables_namable}
+use Rattle.relation_solver.proofs.Opened.{opened_value, opened_values}
 use Rattle.relation_solver.proofs.Shadows.{unshadowed}
-
--- What satisfies bindings satisfies them up to erasure.
-erased : (w : Interpretation) (st : Store) (s : Assign) → Satisfies w st s → IsErasedSolution st s
-erased w st s h = (h.assigns, λ k n t e. ap erase (h.bindings k n t e))
+use Rattle.relation_semantics.proofs.Erased.{erased}
 
 -- A later universe names what an earlier one does.
 names_more : (v u : ℕ) → v ≤ u → (ts : List Tree) → AllNamable v ts → AllNamable u ts

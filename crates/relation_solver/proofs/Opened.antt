@@ -8,9 +8,9 @@ use Rattle.relation_terms.specs.Trees.{Tree, Assign, apply, inst, Leaves}
 use Rattle.relation_terms.specs.Erasure.{erase}
 use Rattle.relation_semantics.specs.Relation.{Interpretation, all_outlive, IsValueLeaf, StaysWithin}
 use Rattle.relation_semantics.specs.Stores.{Store, Constraint, outlives_constraint, equal_constraint, ConstraintHolds}
-use Rattle.relation_semantics.specs.Stores.{MayStandFor, IsNamable, IsMade, universe_of, IsAssignment, entry_term}
+use Rattle.relation_semantics.specs.Stores.{MayStandFor, IsNamable, IsMade, universe_of, entry_term}
 use Rattle.relation_semantics.specs.FirstOrder.{IsErasedSolution}
-use Rattle.relation_semantics.specs.Steps.{AllNamable, AreNewVariables, MakesVariables, AgreeOn}
+use Rattle.relation_semantics.specs.Steps.{AreNewVariables, MakesVariables, AgreeOn}
 use Rattle.relation_semantics.proofs.Trees.{StaysIn, Leaves_map, apply-inst, apply_ground}
 use Rattle.relation_semantics.proofs.StoreCalls.{bindings_are_met}
 use Rattle.relation_semantics.proofs.NewVariables.{erased_agrees}
@@ -34,18 +34,6 @@ opened_values s vars xs [] h e = refl
 opened_values s vars xs (t ∷ ts) h e =
     ap₂ (λ a b. a ∷ b) (opened_value s vars xs t (All-head (Leaves IsValueLeaf) t ts h) e)
     (opened_values s vars xs ts (All-tail (Leaves IsValueLeaf) t ts h) e)
-
--- The values of new variables can be named by the universe that they were made in.
-pub variables_namable : (before st : Store) (s : Assign) (u : ℕ) (ks : List BoundKind) (xs : List Tree) →
-    IsAssignment st s → AreNewVariables before st u ks xs → AllNamable u (map (apply s) xs)
-variables_namable before st s u [] [] h n = tt
-variables_namable before st s u (k ∷ ks) (x ∷ xs) h n = (
-  subst (Leaves (IsNamable u)) (sym (ap (apply s) n.0.2))
-      (subst (λ w. Leaves (IsNamable w) (s n.0.0 n.0.1)) n.0.6 (h n.0.0 n.0.1 n.0.5).3),
-  variables_namable before st s u ks xs h n.2,
-)
-variables_namable before st s u [] (x ∷ xs) h n = absurd n
-variables_namable before st s u (k ∷ ks) [] h n = absurd n
 
 -- What satisfies a store in which variables were made satisfied the one before.
 pub before_making : (before after : Store) (u : ℕ) (ks : List BoundKind) (vars : List Tree) →

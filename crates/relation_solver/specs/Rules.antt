@@ -5,7 +5,6 @@
 --   IsShadowed held r xs       the environment has a clause that the rule gives way to, its variables being xs
 --   Follows u held rules q     what is asked follows from rules, by values that universe u can name
 --   given t                    what the environment has, as a rule
---   FollowsIn u held rules q   what is asked follows from what the environment has and from rules
 --   Derives c w e u held rules q   the same, by the relation at invariance in an environment in place of erasure
 use Rattle.std.specs.Prelude.{◌≡◌, ℕ, List, [], ◌∷◌, ◌++◌, All, Contains, map}
 use Rattle.relation_terms.specs.Heads.{BoundKind}
@@ -52,10 +51,6 @@ pub data Follows (u : ℕ) (held : List Tree) (rules : List Rule) : Asked → Ty
 -- A clause of the environment is a rule that binds nothing, asks for nothing and gives way to none.
 abbrev pub given : Tree → Rule
 given t = record { binds = []; gives = t; asks = []; shadowed_by = [] }
-
--- It follows from what the environment has and from rules.
-abbrev pub FollowsIn : ℕ → List Tree → List Rule → Asked → Type 0
-FollowsIn u held rules q = Follows u held (map given held ++ rules) q
 
 -- It follows from rules where a goal and what a rule gives are related, in an environment, under an interpretation.
 pub data Derives (c : Items) (w : Interpretation) (e : Tree) (u : ℕ) (held : List Tree) (rules : List Rule) :

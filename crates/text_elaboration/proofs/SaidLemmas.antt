@@ -24,7 +24,7 @@ use Rattle.relation_terms.specs.declared.terms.binder.Binder.{Binder}
 use Rattle.relation_terms.specs.declared.terms.keys.ClauseKey.{ClauseKey}
 use Rattle.relation_terms.proofs.Binders.{under_stays}
 use Rattle.relation_terms.proofs.Predicates.{stays_trait_ref}
-use Rattle.relation_terms.proofs.Stays.{stays_arg}
+use Rattle.relation_terms.proofs.Stays.{stays_arg, knows_as}
 use Rattle.reference_interner.specs.declared.RefInterner.{RefInterner}
 use Rattle.reference_interner.specs.declared.keys.ItemId.{ItemId}
 use Rattle.reference_interner.specs.declared.keys.NodeKey.{NodeKey}
@@ -82,14 +82,11 @@ module _ {Key Id Name : Type 0} {m n : Meaning Key Id Name} where
     name = s.name;
   }
 
-known_as : (t u : Tree) → u ≡ t → IsTrue (known t) → IsTrue (known u)
-known_as t u e h = subst (λ z. IsTrue (known z)) (sym e) h
-
 pub stay_on : {Key Id Name : Type 0} {m n o : Meaning Key Id Name} → TermsStay m n → TermsStay n o → TermsStay m o
 stay_on {Key} {Id} {Name} {m} {n} {o} s t = record {
-  arg = λ k h. t.arg k (known_as (arg_tree m k) (arg_tree n k) (s.arg k h) h) ∙ s.arg k h;
-  clause = λ k h. t.clause k (known_as (m.clause k) (n.clause k) (s.clause k h) h) ∙ s.clause k h;
-  bound = λ b h. t.bound b (known_as (bound_tree m b) (bound_tree n b) (s.bound b h) h) ∙ s.bound b h;
+  arg = λ k h. t.arg k (knows_as (arg_tree m k) (arg_tree n k) (s.arg k h) h) ∙ s.arg k h;
+  clause = λ k h. t.clause k (knows_as (m.clause k) (n.clause k) (s.clause k h) h) ∙ s.clause k h;
+  bound = λ b h. t.bound b (knows_as (bound_tree m b) (bound_tree n b) (s.bound b h) h) ∙ s.bound b h;
   id = λ d. t.id d ∙ s.id d;
   name = λ x. t.name x ∙ s.name x;
 }
@@ -108,7 +105,7 @@ said_on f g said start before after o true x s p q = q
 said_on f g said start before after None false x s p q = q ∙ p
 said_on f g said start before after (Some y) false x s p q =
     subst (λ ks. All (λ k. IsTrue (known (g k))) ks × (map g ks ≡ said y)) (sym q) (
-      All-weaker (λ k. IsTrue (known (f k))) (λ k. IsTrue (known (g k))) (λ k h. known_as (f k) (g k) (s k h) h) before p.0,
+      All-weaker (λ k. IsTrue (known (f k))) (λ k. IsTrue (known (g k))) (λ k h. knows_as (f k) (g k) (s k h) h) before p.0,
       map_stays f g before s p.0 ∙ p.1,
     )
 
@@ -176,7 +173,7 @@ bounds_said_of x z y n tree cs bs e s r a q d g =
           (((meaning_in y).tables).const_bounds d) bs.items cs n d true
           (p.bounds ∙ ap (λ t. put_for n d (Some bs.items) (t.const_bounds d)) e.tables)
           (All-weaker (λ b. IsTrue (known (bound_tree (meaning_in z) b))) (λ b. IsTrue (known (bound_tree (meaning_in y) b)))
-          (λ b h. known_as (bound_tree (meaning_in z) b) (bound_tree (meaning_in y) b) (t.bound b h) h) bs.items k)
+          (λ b h. knows_as (bound_tree (meaning_in z) b) (bound_tree (meaning_in y) b) (t.bound b h) h) bs.items k)
           (map_stays (bound_tree (meaning_in z)) (bound_tree (meaning_in y)) bs.items t.bound k ∙ q);
     }
 
@@ -193,7 +190,7 @@ clauses_said_of x z y n items names p s ks b c e t r a q of f h other d g =
     let stay : TermsStay (meaning_in z) (meaning_in y) = same_stay t in
     let k : All (λ k. IsTrue (known ((meaning_in y).clause k))) ks =
     All-weaker (λ k. IsTrue (known ((meaning_in z).clause k))) (λ k. IsTrue (known ((meaning_in y).clause k)))
-    (λ k h. known_as ((meaning_in z).clause k) ((meaning_in y).clause k) (stay.clause k h) h) ks a in
+    (λ k h. knows_as ((meaning_in z).clause k) ((meaning_in y).clause k) (stay.clause k h) h) ks a in
     let m : map (meaning_in y).clause ks ≡ clauses_said items names p s =
     map_stays (meaning_in z).clause (meaning_in y).clause ks stay.clause a ∙ q in
     let of_one : (b : Bool) → b && nat_eq n d ≡ b && is_number d (slice_get items s.of) =
@@ -304,7 +301,7 @@ stay_none m = record {
 pub stay_known : {Key Id Name : Type 0} {m n : Meaning Key Id Name} → TermsStay m n →
     (keys : List (Option (GenericArgKind Key))) → AreKnown m keys → AreKnown n keys
 stay_known {Key} {Id} {Name} {m} {n} s keys h = λ k key is.
-    known_as (arg_tree m key) (arg_tree n key) (s.arg key (h k key is)) (h k key is)
+    knows_as (arg_tree m key) (arg_tree n key) (s.arg key (h k key is)) (h k key is)
 
 pub stay_built : {Key Id Name : Type 0} {m n : Meaning Key Id Name} → TermsStay m n → (ts : List Tree)
     (keys : List (Option (GenericArgKind Key))) → AreKnown m keys → AreBuilt m ts keys → AreBuilt n ts keys

@@ -22,6 +22,7 @@ use Rattle.relation_folds.specs.Visits.{bound_var_escapes}
 use Rattle.relation_folds.proofs.Searching.{escapes_beyond}
 use Rattle.reference_interner.specs.Adding.{SameTerms}
 use Rattle.text_terms.specs.Built.{AreKnown}
+use Rattle.reference_interner.proofs.StatedLemmas.{own_stays}
 
 -- A tree in which no variable escapes needs no binder around it.
 none_needed : (n : ℕ) → nat_lt 0 n ≡ false → n ≡ 0
@@ -31,9 +32,6 @@ none_needed n e = let h = ltb-false 0 n e in omega (arith, h)
 pub own_if : (t : Tree) (b e : Bool) → (IsTrue b ↔ BindsWithin t) → e ≡ bound_var_escapes t → IsTrue b → e ≡ false →
     IsOwn t
 own_if t b e w f h k = (w.0 h, none_needed (outer_exclusive_binder t) (sym (escapes_beyond 0 t) ∙ sym f ∙ k))
-
-own_stays : (t u : Tree) → (IsTrue (known t) → u ≡ t) → IsTrue (known t) × IsOwn t → IsTrue (known u) × IsOwn u
-own_stays t u e h = subst (λ v. IsTrue (known v) × IsOwn v) (sym (e h.0)) h
 
 module _ {Key Id Name : Type 0} {m n : Meaning Key Id Name} (e : Extends m n) where
   -- What is known stays so.

@@ -1,7 +1,8 @@
 -- What stands asked for once the first header was opened, and what is opened then.
 use Rattle.relation_semantics.proofs.Going.{later_through}
-use Rattle.relation_coherence.proofs.BothOpened.{refused_later, header_in, first_later, both_later, opens_headers}
+use Rattle.relation_coherence.proofs.BothOpened.{header_in, first_later, both_later, opens_headers}
 use Rattle.relation_coherence.proofs.opening.open_both.Goals as goal
+use Rattle.relation_semantics.proofs.MakingEach.{refused_later}
 
 pub returns-in_err-lhs-clause-later : goal.returns-in_err-lhs-clause-later
 returns-in_err-lhs-clause-later g c =

@@ -2,13 +2,15 @@
 use Rattle.std.proofs.Common.{sym, subst, IsTrue}
 use Rattle.relation_terms.specs.Trees.{known}
 use Rattle.relation_proving.specs.RuleTerms.{rule_tree}
-use Rattle.relation_proving.proofs.OpenedRules.{binds_by_list, refused_later, rule_later, opens_listed}
+use Rattle.relation_proving.proofs.OpenedRules.{rule_later, opens_listed}
 use Rattle.relation_proving.proofs.opening.open_rule.Goals as goal
+use Rattle.relation_semantics.proofs.MakingEach.{refused_later}
+use Rattle.relation_semantics.proofs.Bound.{outermost_binds}
 
 pub instantiate_binder_with_infer-requires-clause-value_binds :
     goal.instantiate_binder_with_infer-requires-clause-value_binds
 instantiate_binder_with_infer-requires-clause-value_binds g c =
-    binds_by_list (rule_tree (g.C.InferCtxtLike.state c.args.ctx.now).meaning c.args.rule) c.requires.taken
+    outermost_binds (rule_tree (g.C.InferCtxtLike.state c.args.ctx.now).meaning c.args.rule) c.requires.taken
 
 pub returns-in_err-opened-clause-later : goal.returns-in_err-opened-clause-later
 returns-in_err-opened-clause-later g c =
