@@ -1,7 +1,7 @@
 -- What follows of a term whose leaves may stand where they do: it may be related; and of one with a leaf that may not.
 use Rattle.std.proofs.Common.{◌≡◌, ℕ, zero, suc, ◌<◌, refl, sym, ap, ◌∙◌, subst, arith, List, [], ◌∷◌, map, length}
 use Rattle.std.proofs.Common.{Some, slice_get, Result, Ok, Err}
-use Rattle.std.specs.Prelude.{OnOk, OnErr, IfErr}
+use Rattle.std.specs.Prelude.{◌≢◌, OnOk, IfErr}
 use Rattle.std.proofs.Common.{inl, inr}
 use Rattle.relation_terms.specs.Heads.{Sort, BoundKind, bound_sort, Leaf, variable, bound, placeholder, atom, unknown}
 use Rattle.relation_terms.specs.Trees.{Tree, leaf, node, bind, nil, cons, Leaves}
@@ -9,9 +9,9 @@ use Rattle.relation_semantics.specs.Relation.{StaysWithin}
 use Rattle.relation_semantics.specs.Stores.{Store, IsMadeLeaf, IsNamable, InContext, IsTermIn}
 use Rattle.relation_semantics.specs.Bound.{AreBoundAs, IsWellBound}
 use Rattle.may_relate.specs.declared.unfit.Unfit.{Unfit}
-use Rattle.may_relate.specs.declared.unfit.Unfit.TheVariants.{Escapes, NotInList}
+use Rattle.may_relate.specs.declared.unfit.Unfit.TheVariants.{Escapes, NotInList, Memory}
 use Rattle.may_relate.specs.Around.{sort_at}
-use Rattle.may_relate.specs.Fitting.{Fits, FitsAll, IsUnfit, SomeUnfit, MayBeRelated}
+use Rattle.may_relate.specs.Fitting.{Fits, FitsAll, IsUnfit, SomeUnfit, TellsUnfit, MayBeRelated}
 
 -- What is bound is bound by a binder that is around.
 at_within : (ls : List (List Sort)) (d i : ℕ) (s : Sort) → sort_at ls d i ≡ Some s → d < length ls
@@ -168,12 +168,13 @@ some_unfit st ls (cons t ts) e (inl u) f = some_unfit st ls t e u f.0
 some_unfit st ls (cons t ts) e (inr u) f = some_unfit st ls ts e u f.1
 
 -- So where a test said why not.
-pub err_unfit : (st : Store) (t u : Tree) (r : Result (Unit {0}) Unfit) → t ≡ u → IfErr r (SomeUnfit st [] t) →
-    IfErr r (SomeUnfit st [] u)
+pub err_unfit : (st : Store) (t u : Tree) (r : Result (Unit {0}) Unfit) → t ≡ u → IfErr r (TellsUnfit st [] t) →
+    IfErr r (TellsUnfit st [] u)
 err_unfit st t u (Ok x) e h = tt
-err_unfit st t u (Err x) e h = subst (λ v. SomeUnfit st [] v x) e h
+err_unfit st t u (Err x) e h = subst (λ v. TellsUnfit st [] v x) e h
 
-pub err_related : (st : Store) (t u : Tree) (r : Result (Unit {0}) Unfit) → t ≡ u → IfErr r (SomeUnfit st [] t) →
-    OnErr r (MayBeRelated st u → ⊥)
+pub err_related : (st : Store) (t u : Tree) (r : Result (Unit {0}) Unfit) → t ≡ u → IfErr r (TellsUnfit st [] t) →
+    IfErr r (λ x. x ≢ Memory → MayBeRelated st u → ⊥)
 err_related st t u (Ok x) e h = tt
-err_related st t u (Err x) e h = λ may. some_unfit st [] t x h (subst (FitsAll st []) (sym e) (of_related st u may))
+err_related st t u (Err x) e h = λ other may.
+    some_unfit st [] t x (h other) (subst (FitsAll st []) (sym e) (of_related st u may))

@@ -20,13 +20,25 @@ use Rattle.relation_folds.proofs.Visiting.{has_sort}
 use Rattle.relation_semantics.specs.Stores.{Store}
 use Rattle.may_relate.specs.Around.{variable_sort}
 use Rattle.may_relate.specs.declared.unfit.Unfit.{Unfit}
-use Rattle.may_relate.specs.Fitting.{FitsAll, FitsOwn, SomeUnfit, OwnUnfit, is_binder, sorts_inside}
+use Rattle.may_relate.specs.declared.unfit.Unfit.TheVariants.{Memory}
+use Rattle.may_relate.specs.Fitting.{FitsAll, FitsOwn, SomeUnfit, OwnUnfit, TellsUnfit}
+use Rattle.may_relate.specs.Fitting.{is_binder, sorts_inside}
 
 -- What is so of an error is so of a result that hands it on.
 pub handed_on : {X : Type 0} (r : Result X Unfit) (P : Unfit → Type 0) (e : Unfit) → IsErrAnd r (λ f. f ≡ e) → P e →
     IfErr r P
 handed_on (Ok x) P e is p = absurd is
 handed_on (Err f) P e is p = subst P (sym is) p
+
+-- What is so is so after `Ok`; and of memory nothing has to be told.
+pub on_ok : {X E : Type 0} (r : Result X E) (P : Type 0) → P → OnOk r P
+on_ok (Ok x) P p = p
+on_ok (Err e) P p = tt
+
+pub refused : {X : Type 0} (st : Store) (ls : List (List Sort)) (t : Tree) (r : Result X Unfit) →
+    IfErr r (λ e. e ≡ Memory) → IfErr r (TellsUnfit st ls t)
+refused st ls t (Ok x) is = tt
+refused st ls t (Err e) is = λ other. absurd (other is)
 
 module _ (st : Store) (ls : List (List Sort)) where
   -- A term, by its parts.
@@ -129,10 +141,10 @@ module _ {Key Id Name : Type 0} (m : Meaning Key Id Name) where
 
   pub err_binder : (st : Store) (ls : List (List Sort)) (o : Option (List BoundKind)) (t : Tree)
       (xs : List (BoundVariableKind Name)) (r : Result (Unit {0}) Unfit) → o ≡ Some (bound_kinds m xs) →
-      IfErr r (SomeUnfit st (map variable_sort xs ∷ ls) t) → IfErr r (SomeUnfit st ls (under o t))
+      IfErr r (TellsUnfit st (map variable_sort xs ∷ ls) t) → IfErr r (TellsUnfit st ls (under o t))
   err_binder st ls o t xs (Ok x) e h = tt
   err_binder st ls o t xs (Err x) e h =
-      subst (λ u. SomeUnfit st ls (under u t) x) (sym e) (subst (λ s. SomeUnfit st (s ∷ ls) t x) (same_sorts xs) h)
+      subst (λ u. TellsUnfit st ls (under u t) x) (sym e) (subst (λ s. TellsUnfit st (s ∷ ls) t x) (same_sorts xs) h)
 
   -- The same of known parts: of what is no type, region or constant, and of what is no binder.
   pub unasked_part : (st : Store) (ls : List (List Sort)) → Sorted m → (p : Part Key Id) →

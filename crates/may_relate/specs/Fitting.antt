@@ -5,10 +5,11 @@
 --   FitsAll st ls t       the same of each leaf of a tree
 --   IsUnfit st ls l e     a leaf does not fit there, and the reason e says why
 --   SomeUnfit st ls t e   a leaf of a tree does not, and the reason says why
+--   TellsUnfit st ls t e  so it is, unless the reason is that memory was refused
 --   FitsOwn st ls t       a tree that is a leaf fits; OwnUnfit st ls t e: it is a leaf that does not
 --   is_binder s           it is the sort of a binder
 --   sorts_inside t ls     the sorts of what is bound around the parts of a tree
-use Rattle.std.specs.Prelude.{◌≡◌, ℕ, ◌<◌, ◌≤◌, ◌⊎◌, Bool, true, false, List, ◌∷◌, map, Some}
+use Rattle.std.specs.Prelude.{◌≡◌, ◌≢◌, ℕ, ◌<◌, ◌≤◌, ◌⊎◌, Bool, true, false, List, ◌∷◌, map, Some}
 use Rattle.relation_terms.specs.Heads.{Sort, binder_sort, bound_sort, VarKind, type_var, int_var, float_var}
 use Rattle.relation_terms.specs.Heads.{const_var, region_var}
 use Rattle.relation_terms.specs.Heads.{Leaf, variable, bound, placeholder, atom, unknown}
@@ -18,7 +19,7 @@ use Rattle.relation_semantics.specs.Stores.{Store, IsMade, IsTermIn}
 use Rattle.relation_semantics.specs.Bound.{IsWellBound}
 use Rattle.may_relate.specs.declared.unfit.Unfit.{Unfit}
 use Rattle.may_relate.specs.declared.unfit.Unfit.TheVariants.{TyVariable, IntVariable, FloatVariable, ConstVariable}
-use Rattle.may_relate.specs.declared.unfit.Unfit.TheVariants.{RegionVariable, LaterUniverse, StandIn}
+use Rattle.may_relate.specs.declared.unfit.Unfit.TheVariants.{RegionVariable, LaterUniverse, StandIn, Memory}
 use Rattle.may_relate.specs.Around.{sort_at, IsUnbound}
 
 -- A term may be related: its variables are the context's, nothing in it escapes its binders or is of a later universe,
@@ -73,6 +74,10 @@ SomeUnfit st ls (node h ts) e = SomeUnfit st ls ts e
 SomeUnfit st ls (bind ks t) e = SomeUnfit st (map bound_sort ks ∷ ls) t e
 SomeUnfit st ls nil e = ⊥
 SomeUnfit st ls (cons t ts) e = SomeUnfit st ls t e ⊎ SomeUnfit st ls ts e
+
+-- The reason says of some leaf of a tree why it may not stand there, or is that memory was refused.
+abbrev pub TellsUnfit : Store → List (List Sort) → Tree → Unfit → Type 0
+TellsUnfit st ls t e = e ≢ Memory → SomeUnfit st ls t e
 
 -- A tree that is a leaf may stand there.
 abbrev pub FitsOwn : Store → List (List Sort) → Tree → Type 0

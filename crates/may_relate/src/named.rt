@@ -5,10 +5,11 @@ ghost use Rattle.relation_terms.specs.Trees.{known};
 use delayed_map::DelayedSet;
 use relation_folds::visit::{TypeVisitable, TypeVisitor, Visit};
 use relation_terms::terms::{
-    Const, ConstKind, ConstVid, FloatVid, InferConst, InferTy, IntVid, Interner, Region,
-    RegionKind, RegionVid, Ty, TyKey, TyKind, TyVid, UniverseIndex,
+    Const, ConstKind, ConstVid, FloatVid, InferConst, InferTy, IntVid, Interner, OutOfMemory,
+    Region, RegionKind, RegionVid, Ty, TyKey, TyKind, TyVid, UniverseIndex,
 };
 use std::hash::Hash;
+use std::ops::ControlFlow;
 
 /// The variables of the largest numbers that a term names, and the latest universe of its placeholders; the first one
 /// where it has none.
@@ -22,7 +23,8 @@ pub struct Named {
     pub universe: UniverseIndex,
 }
 
-// Notes what is named where it is asked. A type that it was asked about before it skips.
+// Notes what is named where it is asked. A type that it was asked about before it skips, and where it can't remember one
+// it stops.
 #[derive(Drop)]
 struct Notes<X: Eq + Hash> {
     named: Named,
@@ -50,8 +52,10 @@ impl<I: Interner> TypeVisitor<I> for Notes<I::Key> {
     ghost visits = { λ cx v d t w a. ⊤ };
 
     fn visit_ty(&mut self, cx: &I, ty: &Ty<I>, _depth: u128) -> Visit {
-        if let Ok(false) = self.seen.insert(*ty) {
-            return Visit::Skip;
+        match self.seen.insert(*ty) {
+            Ok(true) => {}
+            Ok(false) => return Visit::Skip,
+            Err(_) => return Visit::Stop,
         }
         match cx.ty_kind(ty) {
             TyKind::Infer(infer) => self.note_infer_ty(infer),
@@ -85,7 +89,10 @@ impl<I: Interner> TypeVisitor<I> for Notes<I::Key> {
 /// What a known term names. Each type in it is looked at once.
 ///
 /// A caller makes that many variables and universes, and asks `may_relate`: no clause says that they suffice.
-pub fn named_in<I: Interner, T: TypeVisitable<I>>(cx: &I, term: &T) -> Named
+///
+/// # Errors
+/// `OutOfMemory` where a growth was refused.
+pub fn named_in<I: Interner, T: TypeVisitable<I>>(cx: &I, term: &T) -> Result<Named, OutOfMemory>
     requires { IsTrue (known (T.tree (I.meaning cx.now) term.now)) }
 {
     let named = Named {
@@ -98,6 +105,8 @@ pub fn named_in<I: Interner, T: TypeVisitable<I>>(cx: &I, term: &T) -> Named
     };
     let seen = DelayedSet::new(cx.alloc());
     let mut notes = Notes { named, seen };
-    let _ = term.visit_with(cx, &mut notes);
-    notes.named
+    match term.visit_with(cx, &mut notes) {
+        ControlFlow::Continue(()) => Ok(notes.named),
+        ControlFlow::Break(()) => Err(OutOfMemory),
+    }
 }

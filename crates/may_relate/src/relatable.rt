@@ -1,9 +1,10 @@
 //! What can be tested, and the test.
-ghost use Rattle.std.specs.Prelude.{IsTrue, IfErr, OnOk, OnErr, []};
+ghost use Rattle.std.specs.Prelude.{◌≢◌, IsTrue, IfErr, OnOk, []};
 ghost use Rattle.relation_terms.specs.Trees.{known};
 ghost use Rattle.may_relate.specs.Around.{sorts_around};
-ghost use Rattle.may_relate.specs.Fitting.{FitsAll, MayBeRelated, SomeUnfit};
+ghost use Rattle.may_relate.specs.Fitting.{FitsAll, MayBeRelated, TellsUnfit};
 ghost use Rattle.may_relate.specs.Seen.{AllSeen};
+ghost use Rattle.may_relate.specs.declared.unfit.Unfit.TheVariants.{Memory};
 
 mod binder;
 mod forms;
@@ -21,8 +22,8 @@ use relation_terms::terms::{
 
 /// What can be tested of a context: keys of terms and of lists of them, forms over them, and binders over these.
 pub trait Relatable<C: HasVariables>: HasTree<C::Interner> {
-    /// Nothing, where each leaf of it may stand under these binders; else the first reason why not. The interner, which
-    /// is the context's, knows it.
+    /// Nothing, where each leaf of it may stand under these binders; else the first reason why not, or `Memory` where a
+    /// growth was refused. The interner, which is the context's, knows it.
     fn fits(
         &self,
         ctx: &C,
@@ -34,7 +35,7 @@ pub trait Relatable<C: HasVariables>: HasTree<C::Interner> {
         requires seen { AllSeen (C.state ctx.now).store (sorts_around around.now) (C.Interner.meaning cx.now) seen.old }
         ensures fits { OnOk result (FitsAll (C.state ctx.now).store (sorts_around around.now)
             (Self.tree (C.Interner.meaning cx.now) self.now)) }
-        ensures why { IfErr result (SomeUnfit (C.state ctx.now).store (sorts_around around.now)
+        ensures why { IfErr result (TellsUnfit (C.state ctx.now).store (sorts_around around.now)
             (Self.tree (C.Interner.meaning cx.now) self.now)) }
         ensures seen { AllSeen (C.state ctx.now).store (sorts_around around.now) (C.Interner.meaning cx.now) seen.new };
 }
@@ -44,17 +45,19 @@ pub trait Relatable<C: HasVariables>: HasTree<C::Interner> {
 /// binder in it binds what stands in its body as what its list says it is. That is all that relating asks of a known
 /// term.
 ///
-/// Else the first reason why not, which is so of something that stands in the term; then the term may not be related.
-///
 /// A type is tested once under the same binders, and once at all where nothing escapes from it, but that the first 32
-/// are not remembered. No growth that is refused changes an answer.
+/// are not remembered.
+///
+/// # Errors
+/// The first reason why not, which is so of something that stands in the term: then the term may not be related. Or
+/// `Memory` where a growth was refused, which says nothing of the term.
 pub fn may_relate<C: HasVariables, T: Relatable<C>>(ctx: &C, term: &T) -> Result<(), Unfit>
     requires { IsTrue (known (T.tree (C.state ctx.now).meaning term.now)) }
     ensures may { OnOk result (MayBeRelated (C.state ctx.now).store (T.tree (C.state ctx.now).meaning term.now)) }
-    ensures may_not { OnErr result
-        (MayBeRelated (C.state ctx.now).store (T.tree (C.state ctx.now).meaning term.now) → ⊥) }
+    ensures may_not { let t = T.tree (C.state ctx.now).meaning term.now in
+        IfErr result (λ e. e ≢ Memory → MayBeRelated (C.state ctx.now).store t → ⊥) }
     ensures why { IfErr result
-        (SomeUnfit (C.state ctx.now).store [] (T.tree (C.state ctx.now).meaning term.now)) }
+        (TellsUnfit (C.state ctx.now).store [] (T.tree (C.state ctx.now).meaning term.now)) }
 {
     let cx = ctx.cx();
     let mut seen = none_seen(cx);

@@ -3,7 +3,8 @@ use relation_terms::terms::{
     BoundVar, ConstVid, DebruijnIndex, FloatVid, IntVid, RegionVid, TyVid, UniverseIndex,
 };
 
-/// Why a term may not be related in a context: the first thing in it, part by part, that stands in the way.
+/// Why a term may not be related in a context: the first thing in it, part by part, that stands in the way; or that a
+/// growth was refused before that was known.
 #[derive(Clone, Copy, PartialEq, Eq)]
 pub enum Unfit {
     /// A variable of types that is not the context's.
@@ -24,4 +25,6 @@ pub enum Unfit {
     Escapes(DebruijnIndex),
     /// A bound variable whose binder's list has nothing of its kind at this place.
     NotInList(BoundVar),
+    /// A growth was refused. That says nothing of the term.
+    Memory,
 }

@@ -3,7 +3,7 @@ ghost use Rattle.std.specs.Prelude.{◌≡◌, IsTrue, IfErr, OnOk};
 ghost use Rattle.relation_terms.specs.Trees.{known};
 ghost use Rattle.relation_terms.specs.Parts.{part_tree, parts_tree};
 ghost use Rattle.may_relate.specs.Around.{sorts_around};
-ghost use Rattle.may_relate.specs.Fitting.{FitsAll, SomeUnfit, sorts_inside};
+ghost use Rattle.may_relate.specs.Fitting.{FitsAll, TellsUnfit, sorts_inside};
 ghost use Rattle.may_relate.specs.Seen.{AllSeen};
 
 use crate::around::{Around, AroundOf};
@@ -31,7 +31,7 @@ fn inside<'a, I: Interner>(
     }
 }
 
-/// Nothing, where each leaf of a part may stand there; else the first reason why not.
+/// Nothing, where each leaf of a part may stand there; else the first reason why not, or `Memory`.
 #[cycle(walk)]
 pub fn part_fits<C: HasVariables>(
     ctx: &C,
@@ -44,7 +44,7 @@ pub fn part_fits<C: HasVariables>(
     requires seen { AllSeen (C.state ctx.now).store (sorts_around around.now) (C.Interner.meaning cx.now) seen.old }
     ensures fits { OnOk result (FitsAll (C.state ctx.now).store (sorts_around around.now)
         (part_tree (C.Interner.meaning cx.now) part.now)) }
-    ensures why { IfErr result (SomeUnfit (C.state ctx.now).store (sorts_around around.now)
+    ensures why { IfErr result (TellsUnfit (C.state ctx.now).store (sorts_around around.now)
         (part_tree (C.Interner.meaning cx.now) part.now)) }
     ensures seen { AllSeen (C.state ctx.now).store (sorts_around around.now) (C.Interner.meaning cx.now) seen.new }
 {
@@ -57,8 +57,7 @@ pub fn part_fits<C: HasVariables>(
     let fit = list_fits(ctx, cx, &parts, &inside(&*cx, part, &*around), seen);
     leave(cx, seen, outside);
     fit?;
-    remember(cx, seen, part);
-    Ok(())
+    remember(cx, seen, part)
 }
 
 /// The same of each member of a list.
@@ -74,7 +73,7 @@ pub fn list_fits<C: HasVariables>(
     requires seen { AllSeen (C.state ctx.now).store (sorts_around around.now) (C.Interner.meaning cx.now) seen.old }
     ensures fits { OnOk result (FitsAll (C.state ctx.now).store (sorts_around around.now)
         (parts_tree (C.Interner.meaning cx.now) parts.now)) }
-    ensures why { IfErr result (SomeUnfit (C.state ctx.now).store (sorts_around around.now)
+    ensures why { IfErr result (TellsUnfit (C.state ctx.now).store (sorts_around around.now)
         (parts_tree (C.Interner.meaning cx.now) parts.now)) }
     ensures seen { AllSeen (C.state ctx.now).store (sorts_around around.now) (C.Interner.meaning cx.now) seen.new }
 {

@@ -3,9 +3,10 @@ use Rattle.relation_terms.specs.Trees.{size, count}
 use Rattle.relation_terms.specs.Parts.{part_tree, parts_tree, parts_of}
 use Rattle.relation_terms.proofs.Members.{member_small, parts_small}
 use Rattle.may_relate.specs.Around.{sorts_around}
-use Rattle.may_relate.specs.Fitting.{SomeUnfit}
+use Rattle.may_relate.specs.Fitting.{FitsAll, SomeUnfit, TellsUnfit}
 use Rattle.may_relate.specs.Seen.{AllSeen, LeadsBack}
-use Rattle.may_relate.proofs.Wholes.{fits_list, part_whole, handed_on, unfit_nth, unfit_own, unfit_part}
+use Rattle.may_relate.proofs.Wholes.{fits_list, part_whole, handed_on, on_ok, refused}
+use Rattle.may_relate.proofs.Wholes.{unfit_nth, unfit_own, unfit_part}
 use Rattle.may_relate.proofs.walk.+walk.Goals as goal
 
 pub list_fits-part_fits-requires : goal.list_fits-part_fits-requires
@@ -32,10 +33,10 @@ list_fits-returns-in_err-part_fits-clause-why g t' c =
     let counted = c.member_count-i-end.ensures.counts in
     let test = c.loop-i-test.true in
     let below : c.loop-i.i < count ts = omega (arith, counted, test) in
-    handed_on c.from_residual.result (SomeUnfit st ls ts) c.in_err-part_fits.field-0.0 c.from_residual.ensures.1
-    (unfit_nth st ls ts c.loop-i.i c.in_err-part_fits.field-0.0 below
+    handed_on c.from_residual.result (TellsUnfit st ls ts) c.in_err-part_fits.field-0.0 c.from_residual.ensures.1
+    (λ other. unfit_nth st ls ts c.loop-i.i c.in_err-part_fits.field-0.0 below
     (subst (λ x. SomeUnfit st ls x c.in_err-part_fits.field-0.0) c.member-part.ensures.means
-    c.in_err-part_fits.ensures.why))
+    (c.in_err-part_fits.ensures.why other)))
 
 pub part_fits-list_fits-fit-requires : goal.part_fits-list_fits-fit-requires
 part_fits-list_fits-fit-requires g t' c κs within =
@@ -57,18 +58,18 @@ part_fits-returns-in_err-own-clause-why g t' c =
     let st = (g.C.InferCtxtLike.state c.args.ctx.now).store in
     let ls = sorts_around c.args.around.now in
     let t = part_tree (g.C.Interner.Interner.meaning c.args.cx.now) c.args.part.now in
-    handed_on c.from_residual.result (SomeUnfit st ls t) c.in_err-own.field-0.0 c.from_residual.ensures.1
-    (unfit_own st ls t c.in_err-own.field-0.0 c.in_err-own.ensures.why)
+    handed_on c.from_residual.result (TellsUnfit st ls t) c.in_err-own.field-0.0 c.from_residual.ensures.1
+    (λ other. unfit_own st ls t c.in_err-own.field-0.0 c.in_err-own.ensures.why)
 
 pub part_fits-returns-in_err-fit-clause-why : goal.part_fits-returns-in_err-fit-clause-why
 part_fits-returns-in_err-fit-clause-why g t' c =
     let m = g.C.Interner.Interner.meaning c.args.cx.now in
     let st = (g.C.InferCtxtLike.state c.args.ctx.now).store in
     let ls = sorts_around c.args.around.now in
-    handed_on c.from_residual-in_err-fit.result (SomeUnfit st ls (part_tree m c.args.part.now)) c.in_err-fit.field-0.0
+    handed_on c.from_residual-in_err-fit.result (TellsUnfit st ls (part_tree m c.args.part.now)) c.in_err-fit.field-0.0
     c.from_residual-in_err-fit.ensures.1
-    (unfit_part m st ls c.args.part.now (sorts_around c.inside.result) (parts_tree m c.parts_of-parts.result)
-    c.in_err-fit.field-0.0 c.inside.ensures c.parts_of-parts.ensures.means c.in_err-fit.ensures.why)
+    (λ other. unfit_part m st ls c.args.part.now (sorts_around c.inside.result) (parts_tree m c.parts_of-parts.result)
+    c.in_err-fit.field-0.0 c.inside.ensures c.parts_of-parts.ensures.means (c.in_err-fit.ensures.why other))
 
 pub part_fits-returns-in_err-fit-clause-seen : goal.part_fits-returns-in_err-fit-clause-seen
 part_fits-returns-in_err-fit-clause-seen g t' c =
@@ -94,17 +95,24 @@ list_fits-returns-clause-seen g t' c = c.loop-i.invariant.1
 pub part_fits-returns-clause-fits : goal.part_fits-returns-clause-fits
 part_fits-returns-clause-fits g t' c =
     let m = g.C.Interner.Interner.meaning c.args.cx.now in
-    part_whole m (g.C.InferCtxtLike.state c.args.ctx.now).store (sorts_around c.args.around.now)
-    (g.met.C.Interner.Interner.sorted c.args.cx.now) c.args.part.now c.requires.known c.in_ok-own.ensures.fits
-    (sorts_around c.inside.result) (parts_tree m c.parts_of-parts.result) c.inside.ensures
-    c.parts_of-parts.ensures.means c.in_ok-fit.ensures.fits
+    let st = (g.C.InferCtxtLike.state c.args.ctx.now).store in
+    let ls = sorts_around c.args.around.now in
+    on_ok c.remember.result (FitsAll st ls (part_tree m c.args.part.now))
+    (part_whole m st ls (g.met.C.Interner.Interner.sorted c.args.cx.now) c.args.part.now c.requires.known
+    c.in_ok-own.ensures.fits (sorts_around c.inside.result) (parts_tree m c.parts_of-parts.result) c.inside.ensures
+    c.parts_of-parts.ensures.means c.in_ok-fit.ensures.fits)
+
+pub part_fits-returns-clause-why : goal.part_fits-returns-clause-why
+part_fits-returns-clause-why g t' c =
+    refused (g.C.InferCtxtLike.state c.args.ctx.now).store (sorts_around c.args.around.now)
+    (part_tree (g.C.Interner.Interner.meaning c.args.cx.now) c.args.part.now) c.remember.result c.remember.ensures.memory
 
 pub part_fits-returns-clause-seen : goal.part_fits-returns-clause-seen
 part_fits-returns-clause-seen g t' c =
     let m = g.C.Interner.Interner.meaning c.args.cx.now in
     let st = (g.C.InferCtxtLike.state c.args.ctx.now).store in
     let ls = sorts_around c.args.around.now in
-    c.remember.ensures st ls
+    c.remember.ensures.seen st ls
     (c.leave.ensures st ls (sorts_around c.inside.result) c.list_fits-fit.ensures.seen
     (subst (λ ks. LeadsBack st ls ks m c.enter-outside.result) (sym c.inside.ensures)
     (c.enter-outside.ensures.outside st ls c.requires.seen)))
