@@ -18,7 +18,7 @@ use Rattle.relation_semantics.proofs.Values.{same_value}
 use Rattle.fast_reject.specs.Instances.{IsNoVariable}
 use Rattle.relation_laws.specs.SolutionLaws.{NewVariablesFit}
 use Rattle.relation_coherence.specs.Overlaps.{IsInstanceOf, AreApart, AreApartErased, Covers, IsCommon}
-use Rattle.relation_semantics.proofs.Erased.{erased}
+use Rattle.relation_semantics.proofs.Erased.{solves_erased}
 
 -- A term without variables is its own value.
 closed_leaf : (s : Assign) (l : Leaf) → IsNoVariable l → assigned s l ≡ leaf l
@@ -100,7 +100,7 @@ module _ (instantiating : InstantiatingAssigns) where
       apart never v i j = let r = common v v i j in never free r.0 r.1 (r.2 ∙ sym r.3)
 
       pub apart_erased : NoUnifier st2 x y → AreApartErased st0.universe (bind ks a) (bind ls b)
-      apart_erased never v u i j e = let r = common v u i j in never r.0 (erased free st2 r.0 r.1)
+      apart_erased never v u i j e = let r = common v u i j in never r.0 (solves_erased free st2 r.0 r.1)
           (ap erase r.2 ∙ (e ∙ sym (ap erase r.3)))
 
       pub covers : (st3 : Store) (t : Tree) → InContext st2 x → IsSound st3 → ResolvedResolves →

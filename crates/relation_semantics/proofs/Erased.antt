@@ -182,5 +182,5 @@ pub invariant_terms_are_alike : InvariantTermsAreAlike
 invariant_terms_are_alike c w e a b r f g = erased refl r f g
 
 -- What satisfies what is recorded satisfies it up to erasure.
-pub erased : (w : Interpretation) (st : Store) (s : Assign) → Satisfies w st s → IsErasedSolution st s
-erased w st s h = (h.assigns, λ k n t e. ap erase (h.bindings k n t e))
+pub solves_erased : (w : Interpretation) (st : Store) (s : Assign) → Satisfies w st s → IsErasedSolution st s
+solves_erased w st s h = (h.assigns, λ k n t e. ap erase (h.bindings k n t e))

@@ -1,5 +1,5 @@
 -- The values of terms under the assignments of a store.
-use Rattle.std.proofs.Common.{◌≡◌, ◌≢◌, ℕ, zero, suc, ◌<◌, refl, sym, ap₂, arith, inl, inr, subst, List, [], ◌∷◌, map}
+use Rattle.std.proofs.Common.{◌≡◌, ◌≢◌, ℕ, zero, suc, ◌<◌, refl, sym, ap, ap₂, arith, inl, inr, subst, List, [], ◌∷◌, map}
 use Rattle.relation_terms.specs.Heads.{region_kind, type_kind, const_kind, BoundKind, bound_kind, bound_sort, VarKind, var_sort, Leaf, bool_type, static_region, const_param, atom, variable, bound, placeholder, unknown}
 use Rattle.relation_terms.specs.Trees.{Tree, leaf, node, bind, nil, cons, Assign, assigned, apply, Leaves, Occurs, IsTerm, IsList, nth}
 use Rattle.relation_semantics.specs.Relation.{StaysWithin, IsValue, FitKinds, Avoids, AvoidsAll, Fresh}

@@ -15,7 +15,7 @@ use Rattle.relation_solver.specs.Solving.{ProofsDerive}
 use Rattle.relation_solver.proofs.Alike.{images_without}
 use Rattle.relation_solver.proofs.Opened.{opened_value, opened_values}
 use Rattle.relation_solver.proofs.Shadows.{unshadowed}
-use Rattle.relation_semantics.proofs.Erased.{erased}
+use Rattle.relation_semantics.proofs.Erased.{solves_erased}
 
 -- A later universe names what an earlier one does.
 names_more : (v u : ℕ) → v ≤ u → (ts : List Tree) → AllNamable v ts → AllNamable u ts
@@ -53,7 +53,7 @@ module _ (c : Items) (e : Tree) (u : ℕ) (held : List Tree) (rules : List Rule)
         o.makes.later.shrinks w s at_opening,
         derived_by r xs (apply s g) i (variables_fit before opened s v r.binds vars at_opening.assigns o.makes.are_new)
             (names_more v u l xs (variables_namable before opened s v r.binds vars at_opening.assigns o.makes.are_new))
-            (unshadowed v held closed middle r vars o stands s (erased w middle s p.0))
+            (unshadowed v held closed middle r vars o stands s (solves_erased w middle s p.0))
             (subst (λ t. Rel c w e (at Invariant) (apply s g) t) (opened_value s vars xs r.gives o.gives_closed refl)
             (f w s p.0 holds))
             (subst (λ z. Derives c w e u held rules (all z)) (opened_values s vars xs r.asks o.asks_closed refl) p.1),
