@@ -1,7 +1,8 @@
 //! What a fold has made so far: a part that has a key is not folded again where it was met at the same depth.
 //!
-//! What has none, as a signature, is folded each time; its types and lists are kept.
-ghost use Rattle.std.specs.Prelude.{◌≡◌, ◌≤◌, [], length, drop, fold, IsTrue, IfSome};
+//! What has none, as a signature, is folded each time, and so is a region; types, constants and lists are kept.
+ghost use Rattle.std.specs.Prelude.{◌≡◌, ◌≤◌, [], length, drop, fold, Some, IsTrue, IfSome};
+ghost use Rattle.std.specs.Hash.{u128 as fed_number};
 ghost use Rattle.std.specs.HashMap.{IsEmpty};
 ghost use Rattle.relation_terms.specs.Trees.{known};
 ghost use Rattle.relation_terms.specs.Parts.{part_tree};
@@ -24,13 +25,22 @@ pub struct Place<X> {
     pub depth: u128,
 }
 
+// It stands apart, so that nothing of it is done ahead for a part at no depth.
+#[cold]
+#[inline(never)]
+fn hash_deep<H: Hasher>(depth: u128, state: &mut H)
+    ensures { state.new ≡ fold H.write state.old (fed_number depth) }
+{
+    depth.hash(state);
+}
+
 // A depth of 0, at which most parts stand, is not hashed.
 #[inline(always)]
 fn hash_depth<H: Hasher>(depth: u128, state: &mut H)
     ensures { state.new ≡ fold H.write state.old (fed_depth depth) }
 {
     if depth != 0 {
-        depth.hash(state);
+        hash_deep(depth, state);
     }
 }
 
@@ -79,6 +89,17 @@ pub fn place_of<X: Copy, D: Copy>(part: &Part<X, D>, depth: u128) -> Option<Plac
     Some(Place { sort, key, depth })
 }
 
+// The place where what is made of a part is kept. A region is a leaf: to fold it again takes less than to find it.
+#[inline(always)]
+fn kept_place<X: Copy, D: Copy>(part: &Part<X, D>, depth: u128) -> Option<Place<X>>
+    ensures { IfSome result (λ place. the_place part.now depth ≡ Some place) }
+{
+    match part {
+        Part::Region(_) => None,
+        _ => place_of(part, depth),
+    }
+}
+
 /// Nothing is remembered where a fold begins, and no list is being made.
 pub fn nothing<I: Interner>(cx: &I) -> Memory<I::Key, I::Id>
     ensures made { IsEmpty result.made }
@@ -117,7 +138,7 @@ pub fn recall<I: Interner, F: TypeFolder<I>>(
     if memory.made.is_empty() {
         return None;
     }
-    let place = place_of(part, depth)?;
+    let place = kept_place(part, depth)?;
     memory.made.get(&place).copied()
 }
 
@@ -140,7 +161,7 @@ pub fn keep<I: Interner, F: TypeFolder<I>>(
         memory.let_go += 1;
         return Ok(());
     }
-    if let Some(place) = place_of(part, depth) {
+    if let Some(place) = kept_place(part, depth) {
         memory.made.insert(place, made)?;
         let _ = widen_map(&mut memory.made);
     }

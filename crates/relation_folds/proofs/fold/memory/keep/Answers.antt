@@ -1,4 +1,3 @@
-use Rattle.std.proofs.Common.{◌∙◌, sym}
 use Rattle.relation_folds.proofs.Remembering.{place_eq, remembers_more, remembers_same}
 use Rattle.relation_folds.proofs.fold.memory.keep.Goals as goal
 
@@ -9,4 +8,4 @@ returns-in_ok-insert-clause-remembers g c =
     let eq = place_eq g.I.Key.PartialEq.eq in
     remembers_same m puts eq c.insert.new.self c.widen_map.new.map c.widen_map.ensures.finds
     (remembers_more m puts eq (c.args.memory.now).made c.insert.new.self c.args.part.now c.args.depth c.args.made
-    c.in-Some.place (sym c.place_of.ensures ∙ c.in-Some.is) c.requires.made c.in_ok-insert.ensures.updates.0 c.requires.remembers)
+    c.in-Some.place c.in-Some.ensures c.requires.made c.in_ok-insert.ensures.updates.0 c.requires.remembers)
