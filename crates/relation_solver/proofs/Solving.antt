@@ -9,7 +9,7 @@ use Rattle.relation_semantics.specs.Stores.{Store, InContext}
 use Rattle.relation_semantics.specs.FirstOrder.{IsErasedSolution, Unifies}
 use Rattle.relation_semantics.specs.Steps.{AllNamable, AgreeOn, AgreeErased, HasErasedExtension}
 use Rattle.relation_semantics.specs.Outcomes.{Exact}
-use Rattle.relation_semantics.proofs.Values.{same_value, variables_fit}
+use Rattle.relation_semantics.proofs.Values.{same_value, variables_fit, variables_namable}
 use Rattle.relation_semantics.proofs.Exactness.{same_erased, erased_through}
 use Rattle.relation_semantics.proofs.StoreCalls.{bindings_are_met}
 use Rattle.relation_semantics.proofs.Trees.{apply_ground}
@@ -22,7 +22,7 @@ use Rattle.relation_solver.specs.Solving.{YesIsSound, YesIsPrincipal, NoMeansNon
 use Rattle.relation_solver.specs.Solving.{SomeNoMeansNone}
 use Rattle.relation_solver.proofs.Alike.{AreAlike, alike_sym, alike_trans, alike_values, all_later, one_in, rest_in}
 use Rattle.relation_solver.proofs.Alike.{images_without, alike_one, alike_rest}
-use Rattle.relation_solver.proofs.Opened.{opened_value, opened_values, variables_namable, before_making}
+use Rattle.relation_solver.proofs.Opened.{opened_value, opened_values, before_making}
 use Rattle.relation_solver.proofs.Opened.{opened_are_unconstrained}
 use Rattle.relation_solver.proofs.Shadows.{shadow_value, unshadowed}
 
