@@ -2,6 +2,7 @@
 //!
 //! What has none, as a signature, is folded each time, and so is a region; types, constants and lists are kept.
 ghost use Rattle.std.specs.Prelude.{◌≡◌, ◌≤◌, [], length, drop, fold, Some, IsTrue, IfSome};
+ghost use Rattle.std.specs.Hash.{u128 as fed_number};
 ghost use Rattle.std.specs.HashMap.{IsEmpty};
 ghost use Rattle.relation_terms.specs.Trees.{known};
 ghost use Rattle.relation_terms.specs.Parts.{part_tree};
@@ -24,13 +25,22 @@ pub struct Place<X> {
     pub depth: u128,
 }
 
+// It stands apart, so that nothing of it is done ahead for a part at no depth.
+#[cold]
+#[inline(never)]
+fn hash_deep<H: Hasher>(depth: u128, state: &mut H)
+    ensures { state.new ≡ fold H.write state.old (fed_number depth) }
+{
+    depth.hash(state);
+}
+
 // A depth of 0, at which most parts stand, is not hashed.
 #[inline(always)]
 fn hash_depth<H: Hasher>(depth: u128, state: &mut H)
     ensures { state.new ≡ fold H.write state.old (fed_depth depth) }
 {
     if depth != 0 {
-        depth.hash(state);
+        hash_deep(depth, state);
     }
 }
 

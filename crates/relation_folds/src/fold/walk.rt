@@ -1,7 +1,7 @@
 //! The walk of a folder through a term: one loop over the parts of all forms, so that no folder folds by itself.
 //!
-//! What was made of a part is kept for the length of a call, but for the first 32, so the walk takes as many steps as
-//! there are different parts, and at most 32 more.
+//! What was made of a part is kept for the length of a call, but for the first 32 and of regions, so the walk goes into
+//! as many terms as there are different ones, and at most 32 more.
 //!
 //! The part of a binder stands one binder deeper, and all others as deep as the term that they are parts of.
 ghost use Rattle.std.specs.Prelude.{◌≡◌, ◌≤◌, IsTrue, IfOk, OnOk};
@@ -17,7 +17,7 @@ use crate::fold::{Fold, TypeFolder};
 use relation_terms::terms::parts::{
     is_same, make_parts, member, member_count, parts_of, with_parts,
 };
-use relation_terms::terms::{Interner, OutOfMemory, Part, PartOf, PartsOf};
+use relation_terms::terms::{Interner, OutOfMemory, Part, PartOf, Parts, PartsOf};
 
 // What the folder puts for a part. It is asked about regions, types and constants, and puts nothing for all else.
 #[inline(always)]
@@ -90,7 +90,7 @@ pub fn first_members<I: Interner>(
 
 // Puts the first members of a list of parts upon the lists that are being made, so many.
 #[inline(never)]
-fn push_firsts<I: Interner>(
+fn push_some<I: Interner>(
     cx: &I,
     stack: &mut Vec<PartOf<I>>,
     parts: &PartsOf<I>,
@@ -105,6 +105,25 @@ fn push_firsts<I: Interner>(
         stack.push(member(cx, parts, at))?;
     }
     Ok(())
+}
+
+// The same, and mostly nothing: the first member that differs is the first one.
+#[inline(always)]
+fn push_firsts<I: Interner>(
+    cx: &I,
+    stack: &mut Vec<PartOf<I>>,
+    parts: &PartsOf<I>,
+    amount: usize,
+) -> Result<(), OutOfMemory>
+    requires list_known { IsTrue (known (parts_tree (I.meaning cx.now) parts.now)) }
+    requires in_bounds { amount ≤ count (parts_tree (I.meaning cx.now) parts.now) }
+    ensures { let ts = firsts amount (parts_tree (I.meaning cx.now) parts.now) in
+        OnOk result (StandsUpon (part_tree (I.meaning cx.now)) ts ts stack.old.items stack.new.items) }
+{
+    if amount == 0 {
+        return Ok(());
+    }
+    push_some(cx, stack, parts, amount)
 }
 
 // What the folder makes of a part that stands under `depth` binders: what it made before, where it has met it there.
@@ -187,9 +206,13 @@ fn fold_inside<I: Interner, F: TypeFolder<I>>(
     ensures made { FoldsPartsOf F.replaces (I.meaning cx.old) folder.old (I.meaning cx.new) depth part.now result }
     ensures sort { IfOk result (λ k. part_sort k ≡ part_sort part.now) }
 {
+    let parts = parts_of(cx, part);
+    if let Parts::Empty = parts {
+        return Ok(*part);
+    }
     let inside = depth_inside(part, depth)?;
     let start = memory.stack.len();
-    let differs = fold_members(cx, &parts_of(cx, part), inside, folder, memory)?;
+    let differs = fold_members(cx, &parts, inside, folder, memory)?;
     if differs {
         let whole = with_parts(cx, part, top(memory, start));
         memory.stack.truncate(start);

@@ -1,6 +1,6 @@
 use Rattle.std.proofs.Common.{IfSome, rules, arith, refl, sym, ap, ◌∙◌, ◌≡◌, ◌<◌, ◌≤◌, ◌+◌, ◌*◌, suc, subst, IsTrue}
 use Rattle.std.proofs.lemmas.Bool.{false≢true}
-use Rattle.relation_terms.specs.Trees.{known, size, count, nth, list_tree}
+use Rattle.relation_terms.specs.Trees.{known, size, count, nth, nil, list_tree}
 use Rattle.relation_terms.specs.Parts.{part_tree, parts_tree, parts_of, part_sort, tree_sort, Fit}
 use Rattle.relation_terms.proofs.Stays.{knows_as}
 use Rattle.relation_terms.specs.Interning.{Sorted}
@@ -126,17 +126,33 @@ fold_new-returns-in-Descend g t' c =
       sort = o.sort;
     }
 
+pub fold_inside-returns-in-Empty : goal.fold_inside-returns-in-Empty
+fold_inside-returns-in-Empty g t' c =
+    let m = g.I.Interner.meaning c.args.cx.now in
+    let p = g.F.TypeFolder.replaces m c.args.folder.now in
+    let t = part_tree m c.args.part.now in
+    let d = inside t c.args.depth in
+    let none : nil ≡ parts_of t = sym (ap (parts_tree m) c.in-Empty.is) ∙ c.parts_of-parts.ensures.means in
+    record {
+      steps = steps_none m c.args.folder.now c.requires.ready;
+      remembers = c.requires.remembers;
+      stack = refl;
+      sure = c.requires.known;
+      made = whole_left p c.args.depth d t nil refl none (ap (folded p d) none);
+      sort = refl;
+    }
+
 pub fold_inside-fold_members-requires : goal.fold_inside-fold_members-requires
 fold_inside-fold_members-requires g t' c κs within =
     let m = g.I.Interner.meaning c.args.cx.now in
     let t = part_tree m c.args.part.now in
-    let ts = parts_tree m c.parts_of.result in
+    let ts = parts_tree m c.parts_of-parts.result in
     let d = c.decreases in
     let less = parts_small t in
-    let is : size ts ≡ size (parts_of t) = ap size c.parts_of.ensures.means in
+    let is : size ts ≡ size (parts_of t) = ap size c.parts_of-parts.ensures.means in
     let small : 4 * size ts < 4 * size t + 1 = omega (arith, less, is) in
     let o = c.requires.remembers in
-    let k = c.parts_of.ensures.sure in
+    let k = c.parts_of-parts.ensures.sure in
     let r = c.requires.ready in
     search rules
 
@@ -145,7 +161,7 @@ fold_inside-top-requires g t' c =
     let m = g.I.Interner.meaning c.args.cx.now in
     let n = g.I.Interner.meaning c.fold_members.new.cx in
     let p = g.F.TypeFolder.replaces m c.args.folder.now in
-    let ts = parts_tree m c.parts_of.result in
+    let ts = parts_tree m c.parts_of-parts.result in
     let old = (c.args.memory.now).stack.items in
     upon_below (part_tree n) ts (folded p c.in_ok-inside.inside ts) old (c.fold_members.new.memory).stack.items
     c.len-start.result (c.in_ok-differs.ensures.members.made c.if-differs.true)
@@ -157,7 +173,7 @@ fold_inside-with_parts-whole-requires g t' c =
     let n = g.I.Interner.meaning c.fold_members.new.cx in
     let p = g.F.TypeFolder.replaces m c.args.folder.now in
     let x = c.args.part.now in
-    let ts = parts_tree m c.parts_of.result in
+    let ts = parts_tree m c.parts_of-parts.result in
     let r = c.in_ok-differs.ensures in
     let e : part_tree n x ≡ part_tree m x = stays_part r.steps.grown x c.requires.known in
     let a = r.members.made c.if-differs.true in
@@ -168,7 +184,7 @@ fold_inside-with_parts-whole-requires g t' c =
       term_known = knows_as (part_tree m x) (part_tree n x) e c.requires.known;
       parts_known = subst (λ ys. IsTrue (known (list_tree (part_tree n) ys))) (sym top) a.sure;
       fits = subst (λ ys. Fit ys (parts_of (part_tree n x))) (sym top)
-          (subst (λ us. Fit a.parts us) (c.parts_of.ensures.means ∙ ap parts_of (sym e)) a.fit);
+          (subst (λ us. Fit a.parts us) (c.parts_of-parts.ensures.means ∙ ap parts_of (sym e)) a.fit);
     }
 
 pub fold_inside-returns-then-differs : goal.fold_inside-returns-then-differs
@@ -180,7 +196,7 @@ fold_inside-returns-then-differs g t' c =
     let sorted : Sorted m = g.met.I.Interner.sorted c.args.cx.now in
     let deep : c.in_ok-inside.inside ≡ inside (part_tree m x) c.args.depth =
     c.in_ok-inside.ensures ∙ inside_known m sorted x c.args.depth c.requires.known in
-    let ts = parts_tree m c.parts_of.result in
+    let ts = parts_tree m c.parts_of-parts.result in
     let us = list_tree (part_tree n) c.top.result.now in
     let r = c.in_ok-differs.ensures in
     let o = c.with_parts-whole.ensures in
@@ -191,7 +207,7 @@ fold_inside-returns-then-differs g t' c =
     let top = upon_top (part_tree n) ts (folded p c.in_ok-inside.inside ts) old
     (c.fold_members.new.memory).stack.items c.len-start.result a long c.top.result.now c.top.ensures in
     let q : us ≡ folded p c.in_ok-inside.inside (parts_of (part_tree m x)) =
-    ap (list_tree (part_tree n)) top ∙ (a.same ∙ ap (folded p c.in_ok-inside.inside) c.parts_of.ensures.means) in
+    ap (list_tree (part_tree n)) top ∙ (a.same ∙ ap (folded p c.in_ok-inside.inside) c.parts_of-parts.ensures.means) in
     record {
       steps = steps_grown g.met.F.TypeFolder.ready_on g.met.F.TypeFolder.replaces_on r.steps o.grown;
       remembers = remembers_on (steps_grown g.met.F.TypeFolder.ready_on g.met.F.TypeFolder.replaces_on
@@ -216,7 +232,7 @@ fold_inside-returns-else-differs g t' c =
     let sorted : Sorted m = g.met.I.Interner.sorted c.args.cx.now in
     let deep : c.in_ok-inside.inside ≡ inside (part_tree m x) c.args.depth =
     c.in_ok-inside.ensures ∙ inside_known m sorted x c.args.depth c.requires.known in
-    let ts = parts_tree m c.parts_of.result in
+    let ts = parts_tree m c.parts_of-parts.result in
     let r = c.in_ok-differs.ensures in
     let e : part_tree n x ≡ part_tree m x = stays_part r.steps.grown x c.requires.known in
     let a = r.members.left c.if-differs.false in
@@ -226,7 +242,7 @@ fold_inside-returns-else-differs g t' c =
       stack = a.0;
       sure = knows_as (part_tree m x) (part_tree n x) e c.requires.known;
       made = e ∙ whole_left p c.args.depth c.in_ok-inside.inside (part_tree m x) ts deep
-          c.parts_of.ensures.means (a.1 ∙ ap (folded p c.in_ok-inside.inside) c.parts_of.ensures.means);
+          c.parts_of-parts.ensures.means (a.1 ∙ ap (folded p c.in_ok-inside.inside) c.parts_of-parts.ensures.means);
       sort = refl;
     }
 

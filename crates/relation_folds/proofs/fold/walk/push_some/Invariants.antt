@@ -1,7 +1,7 @@
 use Rattle.relation_terms.specs.Parts.{part_tree, parts_tree}
 use Rattle.relation_folds.specs.Firsts.{firsts}
 use Rattle.relation_folds.specs.Stacks.{StandsUpon}
-use Rattle.relation_folds.proofs.fold.walk.push_firsts.Given as goal
+use Rattle.relation_folds.proofs.fold.walk.push_some.Given as goal
 
 abbrev pub invariant-loop-at : goal.invariant-loop-at
 invariant-loop-at g l =
