@@ -1,7 +1,7 @@
 //! The walk of a folder through a term: one loop over the parts of all forms, so that no folder folds by itself.
 //!
-//! What was made of a part is kept for the length of a call, but for the first 32, so the walk takes as many steps as
-//! there are different parts, and at most 32 more.
+//! What was made of a part is kept for the length of a call, but for the first 32 and of regions, so the walk goes into
+//! as many terms as there are different ones, and at most 32 more.
 //!
 //! The part of a binder stands one binder deeper, and all others as deep as the term that they are parts of.
 ghost use Rattle.std.specs.Prelude.{◌≡◌, ◌≤◌, IsTrue, IfOk, OnOk};
