@@ -4,7 +4,8 @@ ghost use Rattle.relation_terms.specs.Trees.{known, bind, list_tree};
 ghost use Rattle.relation_terms.specs.Meaning.{Extends, bound_kinds};
 ghost use Rattle.relation_semantics.specs.Contexts.{KnowsEnv};
 ghost use Rattle.relation_solver.specs.Rules.{given};
-ghost use Rattle.relation_proving.specs.RuleTerms.{KnowsRule, IsRule, rule_tree};
+ghost use Rattle.relation_proving.specs.Candidates.{MayAsk};
+ghost use Rattle.relation_proving.specs.RuleTerms.{KnowsRule, MayUse, IsRule, rule_tree};
 ghost use Rattle.relation_proving.specs.Answers.{YesDerives, YesMakesFollow, YesLosesNone};
 ghost use Rattle.relation_proving.specs.Answers.{NoFollowsNever, LeavesNothing};
 ghost use Rattle.examples.specs.Ranked.{ranked_clause, vec_over, impl_for_vecs};
@@ -14,7 +15,7 @@ use may_relate::HasVariables;
 use reference_interner::{
     DefKind, GenericParam, GenericParamKind, ItemId, ItemKind, RefInterner, SymbolId,
 };
-use relation_folds::error::RelateResult;
+use relation_folds::error::{RelateFault, RelateResult};
 use relation_proving::checking::{goal_may_be_asked, rules_may_be_used};
 use relation_proving::opening::RuleOf;
 use relation_proving::proving::{Told, Why, prove};
@@ -31,6 +32,23 @@ use std::test::Fail;
 
 /// What is answered, if anything is asked.
 type Answer<I> = Option<RelateResult<I, Told>>;
+
+// Whether a solver may be asked whether a goal follows from rules.
+fn may_be_asked<C: HasVariables>(
+    ctx: &C,
+    rules: &[RuleOf<C::Interner>],
+    goal: &Clause<C::Interner>,
+) -> Result<bool, OutOfMemory>
+    requires rules_known { All (KnowsRule (C.state ctx.now)) rules.now }
+    requires goal_known { IsTrue (known (((C.state ctx.now).meaning).clause goal.now)) }
+    ensures rules { IfOk result (λ may. IsTrue may → All (MayUse (C.state ctx.now)) rules.now) }
+    ensures goal { IfOk result (λ may. IsTrue may → MayAsk (C.state ctx.now) goal.now) }
+{
+    if !rules_may_be_used(ctx, rules)? {
+        return Ok(false);
+    }
+    goal_may_be_asked(ctx, goal)
+}
 
 /// Whether a goal follows from rules, within a depth; the interner has to know them. Nothing is asked where the goal may
 /// not be asked, or one of the rules not be used.
@@ -53,10 +71,10 @@ pub fn ask_solver<C: KeepsRecord + HasVariables>(
     ensures lawful { (C.state ctx.new).lawful }
     ensures grown { Extends (C.state ctx.old).meaning (C.state ctx.new).meaning }
 {
-    if !rules_may_be_used(&*ctx, rules) {
-        return None;
-    }
-    if !goal_may_be_asked(&*ctx, goal) {
+    let Ok(may) = may_be_asked(&*ctx, rules, goal) else {
+        return Some(Err(RelateFault::Memory));
+    };
+    if !may {
         return None;
     }
     let span = ctx.cx().dummy_span();

@@ -10,7 +10,7 @@ ghost use Rattle.may_relate.specs.Fitting.{MayBeRelated};
 ghost use Rattle.relation_regions.specs.Answers.{Decides};
 
 use crate::all::make_region;
-use may_relate::{HasVariables, may_relate};
+use may_relate::{HasVariables, Unfit, may_relate};
 use reference_interner::{RefInterner, SymbolId};
 use relation_folds::error::{RelateFault, RelateResult};
 use relation_reference::context::RefCtxt;
@@ -36,18 +36,21 @@ fn may_ask<C: HasVariables>(
     lhs: &Ty<C::Interner>,
     rhs: &Ty<C::Interner>,
     fact: &FactOf<C::Interner>,
-) -> bool
+) -> Result<bool, OutOfMemory>
     requires lhs_known { KnowsTy (C.state ctx.now) lhs.now }
     requires rhs_known { KnowsTy (C.state ctx.now) rhs.now }
     requires longer_known { IsTrue (known (((C.state ctx.now).meaning).region fact.now.0)) }
     requires shorter_known { IsTrue (known (((C.state ctx.now).meaning).region fact.now.1)) }
-    ensures lhs { let c = C.state ctx.now in IsTrue result → MayBeRelated c.store ((c.meaning).ty lhs.now) }
-    ensures rhs { let c = C.state ctx.now in IsTrue result → MayBeRelated c.store ((c.meaning).ty rhs.now) }
-    ensures fact { IsTrue result → IsFactIn (C.state ctx.now) fact.now }
+    ensures lhs { let c = C.state ctx.now in
+        IfOk result (λ may. IsTrue may → MayBeRelated c.store ((c.meaning).ty lhs.now)) }
+    ensures rhs { let c = C.state ctx.now in
+        IfOk result (λ may. IsTrue may → MayBeRelated c.store ((c.meaning).ty rhs.now)) }
+    ensures fact { IfOk result (λ may. IsTrue may → IsFactIn (C.state ctx.now) fact.now) }
 {
     match (may_relate(ctx, lhs), may_relate(ctx, rhs)) {
-        (Ok(()), Ok(())) => is_fact(ctx, fact),
-        _ => false,
+        (Ok(()), Ok(())) => Ok(is_fact(ctx, fact)),
+        (Err(Unfit::Memory), _) | (_, Err(Unfit::Memory)) => Err(OutOfMemory),
+        _ => Ok(false),
     }
 }
 
@@ -71,7 +74,10 @@ pub fn ask_subtype<C: RecordedRegions + HasVariables>(
     ensures lawful { (C.state ctx.new).lawful }
     ensures grown { Extends (C.state ctx.old).meaning (C.state ctx.new).meaning }
 {
-    if !may_ask(&*ctx, &lhs, &rhs, &fact) {
+    let Ok(may) = may_ask(&*ctx, &lhs, &rhs, &fact) else {
+        return Some(Err(RelateFault::Memory));
+    };
+    if !may {
         return None;
     }
     let span = ctx.cx().dummy_span();

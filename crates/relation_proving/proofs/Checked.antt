@@ -1,8 +1,9 @@
 -- What a test of a goal, of a rule's clause and of a rule says.
 use Rattle.std.proofs.Common.{◌≡◌, ◌↔◌, refl, sym, ◌∙◌, subst, List, [], ◌∷◌, Option, Some, None, Bool, true, false}
 use Rattle.std.proofs.Common.{IsTrue, All, Result, Ok, Err, ℕ, ◌<◌, length, get_or}
-use Rattle.std.specs.Prelude.{is_ok, OnOk, OnErr, IsSome}
+use Rattle.std.specs.Prelude.{◌≢◌, IsFalse, IsOk, IsErrAnd, IfOk, IfErr, OnOk, IsSome}
 use Rattle.std.proofs.lemmas.Bool.{false≢true}
+use Rattle.std.proofs.lemmas.Result.{IfOk-weaker}
 use Rattle.std.proofs.lemmas.List.Elements.{All-nil, All-cons, All-head, All-tail, All-get_or}
 use Rattle.relation_terms.specs.declared.predicate.trait_ref.TraitPredicate.{TraitPredicate}
 use Rattle.relation_terms.specs.declared.terms.binder.Binder.{Binder}
@@ -16,16 +17,22 @@ use Rattle.relation_terms.specs.Meaning.{Meaning, under}
 use Rattle.relation_terms.proofs.Binders.{under_known, known_under}
 use Rattle.relation_semantics.specs.Contexts.{Context}
 use Rattle.relation_semantics.specs.Stores.{Store, InContext, IsTermIn}
+use Rattle.may_relate.specs.declared.unfit.Unfit.{Unfit}
+use Rattle.may_relate.specs.declared.unfit.Unfit.TheVariants.{Memory}
 use Rattle.may_relate.specs.Fitting.{MayBeRelated}
 use Rattle.relation_proving.proofs.OpenedRules.{each_known}
 use Rattle.relation_proving.specs.RuleTerms.{KnowsRule, rule_tree}
 use Rattle.relation_proving.specs.Checking.{AreOfTraits, IsTraitGoal, IsTraitPart, IsTraitRule}
 
 -- A test says just what is so, and one that fails where it would not that nothing is.
-tested : {E : Type 0} (r : Result (Unit {0}) E) (b : Bool) (P : Type 0) → b ≡ is_ok r → OnOk r P →
-    OnErr r (P → ⊥) → IsTrue b ↔ P
-tested (Ok x) b P e is other = (λ t. is, λ p. e)
-tested (Err x) b P e is other = (λ t. absurd (false≢true (sym e ∙ t)), λ p. absurd (other p))
+tested : {E : Type 0} (r : Result (Unit {0}) Unfit) (o : Result Bool E) (P : Type 0) → IfOk o (λ b. IsTrue b → IsOk r) →
+    IfOk o (λ b. IsFalse b → IsErrAnd r (λ e. e ≢ Memory)) → OnOk r P → IfErr r (λ e. e ≢ Memory → P → ⊥) →
+    IfOk o (λ b. IsTrue b ↔ P)
+tested r (Err x) P on off is other = tt
+tested (Ok x) (Ok true) P on off is other = (λ t. is, λ p. refl)
+tested (Err x) (Ok true) P on off is other = absurd (false≢true (on refl))
+tested (Ok x) (Ok false) P on off is other = absurd (off refl)
+tested (Err x) (Ok false) P on off is other = (λ t. absurd (false≢true t), λ p. absurd (other (off refl) p))
 
 pub all_passed : {P : Type 0} → P → IsTrue true ↔ P
 all_passed p = (λ t. p, λ q. refl)
@@ -62,15 +69,20 @@ module _ {Key Id Name : Type 0} where
   -- A goal.
   module _ (c : Context Key Id Name) (k : ClauseKey Key) where
     pub goal_passed : {E : Type 0} (h : IsTrue (known ((c.meaning).clause k))) (b : Binder Key (TraitPredicate Key Id)) →
-        (c.meaning).clause k ≡ trait_clause_tree c.meaning b → (r : Result (Unit {0}) E) (answer : Bool) → answer ≡ is_ok r →
+        (c.meaning).clause k ≡ trait_clause_tree c.meaning b → (r : Result (Unit {0}) Unfit) (o : Result Bool E) →
+        IfOk o (λ answer. IsTrue answer → IsOk r) → IfOk o (λ answer. IsFalse answer → IsErrAnd r (λ x. x ≢ Memory)) →
         OnOk r (MayBeRelated c.store (trait_clause_tree c.meaning b)) →
-        OnErr r (MayBeRelated c.store (trait_clause_tree c.meaning b) → ⊥) → IsTrue answer ↔ IsTraitGoal c k
-    goal_passed h b e r answer says may may_not =
-        let p = tested r answer (MayBeRelated c.store (trait_clause_tree c.meaning b)) says may may_not in (
+        IfErr r (λ x. x ≢ Memory → MayBeRelated c.store (trait_clause_tree c.meaning b) → ⊥) →
+        IfOk o (λ answer. IsTrue answer ↔ IsTraitGoal c k)
+    goal_passed h b e r o on off may may_not =
+        IfOk-weaker o (λ answer. IsTrue answer ↔ MayBeRelated c.store (trait_clause_tree c.meaning b))
+        (λ answer. IsTrue answer ↔ IsTraitGoal c k)
+        (λ answer p. (
           λ t. let q = subst (MayBeRelated c.store) (sym e) (p.0 t) in
               record { of_trait = (b, e); may = record { is_known = h; is_in = q.0; taken = q.1 } },
           λ g. p.1 (subst (MayBeRelated c.store) e ((g.may).is_in, (g.may).taken)),
-        )
+        ))
+        (tested r o (MayBeRelated c.store (trait_clause_tree c.meaning b)) on off may may_not)
 
     pub no_goal : ((b : Binder Key (TraitPredicate Key Id)) → (c.meaning).clause k ≡ trait_clause_tree c.meaning b → ⊥) →
         IsTrue false ↔ IsTraitGoal c k
@@ -88,15 +100,19 @@ module _ {Key Id Name : Type 0} where
         (subst (λ t. IsTrue (known t)) e h)
 
     pub part_passed : {E : Type 0} (b : Binder Key (TraitPredicate Key Id)) → (c.meaning).clause k ≡ trait_clause_tree c.meaning b →
-        (r : Result (Unit {0}) E) (answer : Bool) → answer ≡ is_ok r →
+        (r : Result (Unit {0}) Unfit) (o : Result Bool E) → IfOk o (λ answer. IsTrue answer → IsOk r) →
+        IfOk o (λ answer. IsFalse answer → IsErrAnd r (λ x. x ≢ Memory)) →
         OnOk r (MayBeRelated c.store (stands_as (trait_clause_tree c.meaning b))) →
-        OnErr r (MayBeRelated c.store (stands_as (trait_clause_tree c.meaning b)) → ⊥) →
-        IsTrue answer ↔ IsTraitPart c v k
-    part_passed b e r answer says may may_not =
-        let p = tested r answer (MayBeRelated c.store (stands_as (trait_clause_tree c.meaning b))) says may may_not in (
+        IfErr r (λ x. x ≢ Memory → MayBeRelated c.store (stands_as (trait_clause_tree c.meaning b)) → ⊥) →
+        IfOk o (λ answer. IsTrue answer ↔ IsTraitPart c v k)
+    part_passed b e r o on off may may_not =
+        IfOk-weaker o (λ answer. IsTrue answer ↔ MayBeRelated c.store (stands_as (trait_clause_tree c.meaning b)))
+        (λ answer. IsTrue answer ↔ IsTraitPart c v k)
+        (λ answer p. (
           λ t. record { of_trait = (b, e); stands = subst (λ z. MayBeRelated c.store (stands_as z)) (sym e) (p.0 t) },
           λ g. p.1 (subst (λ z. MayBeRelated c.store (stands_as z)) e g.stands),
-        )
+        ))
+        (tested r o (MayBeRelated c.store (stands_as (trait_clause_tree c.meaning b))) on off may may_not)
 
     pub no_part : ((b : Binder Key (TraitPredicate Key Id)) → (c.meaning).clause k ≡ trait_clause_tree c.meaning b → ⊥) →
         IsTrue false ↔ IsTraitPart c v k

@@ -11,6 +11,7 @@ ghost use Rattle.text_asking.specs.Fits.{AreFit, IsFit, needed};
 use crate::BUDGET;
 use crate::context::{KINDS, enter_universe, largest, make_variables};
 use may_relate::{Named, Unfit, may_relate, named_in};
+use relation_folds::visit::TypeVisitable;
 use relation_reference::context::RefCtxt;
 use relation_semantics::infer_ctxt::TypingMode;
 use relation_terms::terms::{GenericArg, Interner, OutOfMemory};
@@ -59,7 +60,7 @@ fn count_named(named: Named, kind: VariableKind) -> usize {
 }
 
 // What a term needs that names these.
-pub(super) fn needs_of(named: Named) -> Needs {
+fn needs_of(named: Named) -> Needs {
     Needs {
         types: count_named(named, VariableKind::Ty),
         ints: count_named(named, VariableKind::Int),
@@ -103,6 +104,35 @@ pub(super) fn have_needed<I: Interner>(
     Ok(())
 }
 
+// Makes the variables that a term names, and tells what it needs.
+pub(super) fn have_named<I: Interner, T: TypeVisitable<I>>(
+    ctx: &mut RefCtxt<I>,
+    term: &T,
+) -> Result<Needs, OutOfMemory>
+    requires lawful { IsLawful (I.meaning ctx.old.interner) ctx.old.inner }
+    requires term_known { IsTrue (known (T.tree (I.meaning ctx.old.interner) term.now)) }
+    ensures lawful { IsLawful (I.meaning ctx.new.interner) ctx.new.inner }
+    ensures grown { Extends (I.meaning ctx.old.interner) (I.meaning ctx.new.interner) }
+{
+    let needs = needs_of(named_in(&ctx.interner, term)?);
+    have_needed(ctx, &needs)?;
+    Ok(needs)
+}
+
+// What two terms need.
+pub(super) fn needs_of_both<I: Interner, T: TypeVisitable<I>>(
+    cx: &I,
+    lhs: &T,
+    rhs: &T,
+) -> Result<(Needs, Needs), OutOfMemory>
+    requires lhs_known { IsTrue (known (T.tree (I.meaning cx.now) lhs.now)) }
+    requires rhs_known { IsTrue (known (T.tree (I.meaning cx.now) rhs.now)) }
+{
+    let lhs = named_in(cx, lhs)?;
+    let rhs = named_in(cx, rhs)?;
+    Ok((needs_of(lhs), needs_of(rhs)))
+}
+
 // What a term needs, and whether it may be related: tested in a context that has what the term names.
 fn fit_of<I: Interner>(ctx: &mut RefCtxt<I>, term: &GenericArg<I>) -> Result<Fit, OutOfMemory>
     requires lawful { IsLawful (I.meaning ctx.old.interner) ctx.old.inner }
@@ -111,8 +141,7 @@ fn fit_of<I: Interner>(ctx: &mut RefCtxt<I>, term: &GenericArg<I>) -> Result<Fit
     ensures grown { Extends (I.meaning ctx.old.interner) (I.meaning ctx.new.interner) }
     ensures fit { IfOk result (IsFit (I.meaning ctx.new.interner) term.now) }
 {
-    let needs = needs_of(named_in(&ctx.interner, term));
-    have_needed(ctx, &needs)?;
+    let needs = have_named(ctx, term)?;
     enter_universe(ctx, needs.universe);
     let fits = may_relate(&*ctx, term);
     Ok(Fit {

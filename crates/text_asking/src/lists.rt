@@ -7,9 +7,9 @@ ghost use Rattle.text_asking.specs.Asking.{AllReady, KnowsAnswer, KnowsRelated};
 
 use crate::context::{NotAsked, may_ask, relate};
 use crate::environment::environment_for;
-use crate::fits::needs_of;
+use crate::fits::needs_of_both;
 use crate::question::{Answer, Outcome, Ready, Unasked, terms_of};
-use may_relate::{may_relate, named_in};
+use may_relate::may_relate;
 use relation_reference::context::RefCtxt;
 use relation_terms::terms::parts::member_count;
 use relation_terms::terms::{GenericArgs, Interner, Parts as PartsOfTerm, Variance};
@@ -65,8 +65,7 @@ fn relate_args<I: Interner>(
         return Err(Unasked::NotAsked(NotAsked::Lengths));
     }
     let relation = Relation::At(Variance::Invariant);
-    let lhs_needs = needs_of(named_in(&ctx.interner, &lhs));
-    let rhs_needs = needs_of(named_in(&ctx.interner, &rhs));
+    let (lhs_needs, rhs_needs) = needs_of_both(&ctx.interner, &lhs, &rhs)?;
     let param_env = environment_for(ctx, terms, assumed, &lhs_needs, &rhs_needs)?;
     let lhs_fits = may_relate(&*ctx, &lhs);
     let rhs_fits = may_relate(&*ctx, &rhs);

@@ -9,10 +9,9 @@ ghost use Rattle.text_asking.specs.Proofs.{KnowsProof};
 
 use crate::elaborating::clauses_of;
 use crate::environment::environment_of;
-use crate::fits::{have_needed, needs_of};
+use crate::fits::have_named;
 use crate::printing::{write_bound, write_constraints, write_tainted};
 use crate::question::{Answer, Outcome, Ready, Unasked};
-use may_relate::named_in;
 use relation_reference::context::RefCtxt;
 use relation_terms::terms::{Binder, Clause, ClauseKey, ClausesKey, Interner, Keys, ParamEnvKey};
 use std::fmt::{self, Write};
@@ -137,8 +136,7 @@ pub(super) fn ask_proved<I: Interner>(
     let Some(proof) = proof_of(&mut ctx.interner, terms, assumed, goal, impls) else {
         return Err(Unasked::Memory);
     };
-    let needs = needs_of(named_in(&ctx.interner, &proof.goal));
-    let Ok(()) = have_needed(ctx, &needs) else {
+    let Ok(_) = have_named(ctx, &proof.goal) else {
         return Err(Unasked::Memory);
     };
     match ask_proof(ctx, &proof.rules, proof.param_env, &proof.goal, depth) {

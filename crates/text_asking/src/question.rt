@@ -24,6 +24,7 @@ use crate::roots::{ask_binding, ask_one};
 use crate::sized_keys::SizedKeys;
 use crate::visiting::{Met, visit};
 use crate::walking::numbers_at;
+use may_relate::Unfit;
 use relation_coherence::overlap::Overlap;
 use relation_folds::error::RelateFault;
 use relation_folds::visit::{has_escaping_bound_vars, has_non_region_infer, is_known_rigid};
@@ -89,7 +90,10 @@ impl From<OutOfMemory> for Unasked {
 
 impl From<NotAsked> for Unasked {
     fn from(why: NotAsked) -> Unasked {
-        Unasked::NotAsked(why)
+        match why {
+            NotAsked::Unfit(Unfit::Memory) => Unasked::Memory,
+            _ => Unasked::NotAsked(why),
+        }
     }
 }
 

@@ -73,18 +73,18 @@ pub fn proof_text<I: Interner>(proof: &ProofResult<I>) -> &'static str
     }
 }
 
-/// Writes why a goal is not asked about.
+/// Writes why a goal is not asked about, or `memory` where a growth was refused.
 ///
 /// # Errors
 /// `fmt::Error` where `out` refused to take some of the text. What it took before stands.
 pub fn write_unasked<W: Write>(why: WhyNot, out: &mut W) -> fmt::Result {
-    out.write_str("not asked: ")?;
-    match why {
-        WhyNot::Open => out.write_str("a variable stands in an impl or in what is assumed"),
-        WhyNot::NoTrait => out.write_str("it is asked of traits alone"),
+    out.write_str(match why {
+        WhyNot::Open => "not asked: a variable stands in an impl or in what is assumed",
+        WhyNot::NoTrait => "not asked: it is asked of traits alone",
         WhyNot::Unfit(Unfit::LaterUniverse(_)) => {
-            out.write_str("the context's universe does not name the placeholder")
+            "not asked: the context's universe does not name the placeholder"
         }
-        WhyNot::Unfit(_) => out.write_str("a binder does not bind by its list"),
-    }
+        WhyNot::Unfit(Unfit::Memory) => "memory",
+        WhyNot::Unfit(_) => "not asked: a binder does not bind by its list",
+    })
 }

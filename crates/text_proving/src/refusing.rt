@@ -19,7 +19,7 @@ pub enum WhyNot {
     Open,
     /// The goal, or what an impl gives or asks for, or what is assumed, is not that a trait is implemented.
     NoTrait,
-    /// One of them may not be related in the context.
+    /// One of them may not be related in the context, or a growth was refused.
     Unfit(Unfit),
 }
 

@@ -22,7 +22,7 @@ pub enum WhyNot {
     Lengths,
     /// In one stands an inference variable, or a parameter of a type or a constant that it does not bind.
     Unfixed,
-    /// One may not be related in the context.
+    /// One may not be related in the context, or a growth was refused.
     Unfit(Unfit),
 }
 
@@ -109,18 +109,20 @@ pub fn ask_overlap<C: HasVariables>(
     Ok(overlap(ctx, param_env, left, right, span))
 }
 
-/// Writes why headers are not asked about.
+/// Writes why headers are not asked about, or `memory` where a growth was refused.
 ///
 /// # Errors
 /// `fmt::Error` where `out` refused to take some of the text. What it took before stands.
 pub fn write_why_not<W: Write>(why: WhyNot, out: &mut W) -> fmt::Result {
-    out.write_str("not asked: ")?;
     out.write_str(match why {
-        WhyNot::Lengths => "one list has more arguments than the other",
-        WhyNot::Unfixed => "a variable or a parameter stands in a header that does not bind it",
-        WhyNot::Unfit(Unfit::LaterUniverse(_)) => {
-            "the context's universe does not name the placeholder"
+        WhyNot::Lengths => "not asked: one list has more arguments than the other",
+        WhyNot::Unfixed => {
+            "not asked: a variable or a parameter stands in a header that does not bind it"
         }
-        WhyNot::Unfit(_) => "a binder in a header does not bind by its list",
+        WhyNot::Unfit(Unfit::LaterUniverse(_)) => {
+            "not asked: the context's universe does not name the placeholder"
+        }
+        WhyNot::Unfit(Unfit::Memory) => "memory",
+        WhyNot::Unfit(_) => "not asked: a binder in a header does not bind by its list",
     })
 }

@@ -19,7 +19,8 @@ pub returns-in-Some : goal.returns-in-Some
 returns-in-Some g c =
     part_passed (g.C.InferCtxtLike.state c.args.ctx.now) c.args.bound_vars c.args.clause.now c.in-Some.value
     (subst (λ m. FindsTrait m c.args.clause.now (Some c.in-Some.value)) c.cx-cx.ensures c.in-Some.ensures)
-    c.may_relate.result c.is_ok.result c.is_ok.ensures.value c.may_relate.ensures.may c.may_relate.ensures.may_not
+    c.may_relate.result c.told.result c.told.ensures.yes c.told.ensures.no c.may_relate.ensures.may
+    c.may_relate.ensures.may_not
 
 pub returns-in-None : goal.returns-in-None
 returns-in-None g c =

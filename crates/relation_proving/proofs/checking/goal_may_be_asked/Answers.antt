@@ -18,7 +18,8 @@ pub returns-in-Some : goal.returns-in-Some
 returns-in-Some g c =
     goal_passed (g.C.InferCtxtLike.state c.args.ctx.now) c.args.goal.now c.requires c.in-Some.form
     (subst (λ m. FindsTrait m c.args.goal.now (Some c.in-Some.form)) c.cx-cx.ensures c.in-Some.ensures)
-    c.may_relate.result c.is_ok.result c.is_ok.ensures.value c.may_relate.ensures.may c.may_relate.ensures.may_not
+    c.may_relate.result c.told.result c.told.ensures.yes c.told.ensures.no c.may_relate.ensures.may
+    c.may_relate.ensures.may_not
 
 pub returns-in-None : goal.returns-in-None
 returns-in-None g c =

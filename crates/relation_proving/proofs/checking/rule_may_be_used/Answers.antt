@@ -32,19 +32,19 @@ clause_may_stand-requires g c =
 pub loop-clause-preserved : goal.loop-clause-preserved
 loop-clause-preserved g c =
     let here = IsTraitPart (g.C.InferCtxtLike.state c.args.ctx.now) (c.args.rule.now).bound_vars in
-    let is : IsTrue c.clause_may_stand.result = (let i = c.if-not-clause_may_stand.false in search rules) in
+    let is : IsTrue c.in_ok-clause_may_stand.field-0 = (let i = c.if-not-branch.false in search rules) in
     All-more here c.clauses-clauses.result.now c.loop-clause.clause-index c.clause-item.result c.loop-clause-test.true
-    c.loop-clause.invariant (subst here c.clause-item.is (c.clause_may_stand.ensures.0 is))
+    c.loop-clause.invariant (subst here c.clause-item.is (c.in_ok-clause_may_stand.ensures.0 is))
 
-pub returns-then-not-clause_may_stand : goal.returns-then-not-clause_may_stand
-returns-then-not-clause_may_stand g c =
+pub returns-then-not-branch : goal.returns-then-not-branch
+returns-then-not-branch g c =
     let s = g.C.InferCtxtLike.state c.args.ctx.now in
     let here = IsTraitPart s (c.args.rule.now).bound_vars in
     let xs = c.clauses-clauses.result.now in
     let e = subst (λ n. n.clauses (c.args.rule.now).value ≡ list_tree n.clause xs) c.cx-cx.ensures
     c.clauses-clauses.ensures in
-    let fails : c.clause_may_stand.result ≡ false = (let i = c.if-not-clause_may_stand.true in search rules) in
-    none_passed c.clause_may_stand.result fails (λ r. c.clause_may_stand.ensures.1 (subst here (sym c.clause-item.is)
+    let fails : c.in_ok-clause_may_stand.field-0 ≡ false = (let i = c.if-not-branch.true in search rules) in
+    none_passed c.in_ok-clause_may_stand.field-0 fails (λ r. c.in_ok-clause_may_stand.ensures.1 (subst here (sym c.clause-item.is)
     (All-get_or here xs c.loop-clause.clause-index c.clause-item.result c.loop-clause-test.true
     (parts_of_rule s c.args.rule.now xs e r))))
 

@@ -20,15 +20,15 @@ rule_may_be_used-requires g c =
 pub loop-rule-preserved : goal.loop-rule-preserved
 loop-rule-preserved g c =
     let here = IsTraitRule (g.C.InferCtxtLike.state c.args.ctx.now) in
-    let is : IsTrue c.rule_may_be_used.result = (let i = c.if-not-rule_may_be_used.false in search rules) in
+    let is : IsTrue c.in_ok-rule_may_be_used.field-0 = (let i = c.if-not-branch.false in search rules) in
     All-more here c.args.rules.now c.loop-rule.rule-index c.rule-item.result c.loop-rule-test.true c.loop-rule.invariant
-    (subst here c.rule-item.is (c.rule_may_be_used.ensures.0 is))
+    (subst here c.rule-item.is (c.in_ok-rule_may_be_used.ensures.0 is))
 
-pub returns-then-not-rule_may_be_used : goal.returns-then-not-rule_may_be_used
-returns-then-not-rule_may_be_used g c =
+pub returns-then-not-branch : goal.returns-then-not-branch
+returns-then-not-branch g c =
     let here = IsTraitRule (g.C.InferCtxtLike.state c.args.ctx.now) in
-    let fails : c.rule_may_be_used.result ≡ false = (let i = c.if-not-rule_may_be_used.true in search rules) in
-    none_passed c.rule_may_be_used.result fails (λ all. c.rule_may_be_used.ensures.1 (subst here (sym c.rule-item.is)
+    let fails : c.in_ok-rule_may_be_used.field-0 ≡ false = (let i = c.if-not-branch.true in search rules) in
+    none_passed c.in_ok-rule_may_be_used.field-0 fails (λ all. c.in_ok-rule_may_be_used.ensures.1 (subst here (sym c.rule-item.is)
     (All-get_or here c.args.rules.now c.loop-rule.rule-index c.rule-item.result c.loop-rule-test.true all)))
 
 pub returns : goal.returns

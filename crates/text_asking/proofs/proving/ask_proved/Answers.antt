@@ -7,36 +7,36 @@ use Rattle.text_proving.specs.Made.{KnowsMade}
 use Rattle.text_asking.proofs.ProofLemmas.{proof_later}
 use Rattle.text_asking.proofs.proving.ask_proved.Goals as goal
 
-pub named_in-requires : goal.named_in-requires
-named_in-requires g c = c.in-Some.ensures.sure.goal
+pub have_named-requires-clause-lawful : goal.have_named-requires-clause-lawful
+have_named-requires-clause-lawful g c = lawful_grows c.proof_of.ensures.grown c.args.ctx.now.inner c.requires.lawful
 
-pub have_needed-requires : goal.have_needed-requires
-have_needed-requires g c = lawful_grows c.proof_of.ensures.grown c.args.ctx.now.inner c.requires.lawful
+pub have_named-requires-clause-term_known : goal.have_named-requires-clause-term_known
+have_named-requires-clause-term_known g c = c.in-Some.ensures.sure.goal
 
 pub ask_proof-requires-clause-env_known : goal.ask_proof-requires-clause-env_known
 ask_proof-requires-clause-env_known g c =
-    (proof_later c.have_needed.ensures.grown c.in-Some.proof c.in-Some.ensures.sure).env
+    (proof_later c.have_named.ensures.grown c.in-Some.proof c.in-Some.ensures.sure).env
 
 pub ask_proof-requires-clause-rules_known : goal.ask_proof-requires-clause-rules_known
 ask_proof-requires-clause-rules_known g c =
-    subst (All (KnowsMade (g.I.Interner.meaning c.have_needed.new.ctx.interner))) (sym c.deref.ensures.value)
-    (proof_later c.have_needed.ensures.grown c.in-Some.proof c.in-Some.ensures.sure).rules
+    subst (All (KnowsMade (g.I.Interner.meaning c.have_named.new.ctx.interner))) (sym c.deref.ensures.value)
+    (proof_later c.have_named.ensures.grown c.in-Some.proof c.in-Some.ensures.sure).rules
 
 pub ask_proof-requires-clause-goal_known : goal.ask_proof-requires-clause-goal_known
 ask_proof-requires-clause-goal_known g c =
-    (proof_later c.have_needed.ensures.grown c.in-Some.proof c.in-Some.ensures.sure).goal
+    (proof_later c.have_named.ensures.grown c.in-Some.proof c.in-Some.ensures.sure).goal
 
 pub returns-in_default-clause-lawful : goal.returns-in_default-clause-lawful
 returns-in_default-clause-lawful g c =
     lawful_grows c.proof_of.ensures.grown c.args.ctx.now.inner c.requires.lawful
 
-pub returns-in_default-have_needed-clause-grown : goal.returns-in_default-have_needed-clause-grown
-returns-in_default-have_needed-clause-grown g c = extends_on c.proof_of.ensures.grown c.have_needed.ensures.grown
+pub returns-in_default-have_named-clause-grown : goal.returns-in_default-have_named-clause-grown
+returns-in_default-have_named-clause-grown g c = extends_on c.proof_of.ensures.grown c.have_named.ensures.grown
 
 pub returns-in-Ok-ask_proof-clause-grown : goal.returns-in-Ok-ask_proof-clause-grown
 returns-in-Ok-ask_proof-clause-grown g c =
-    extends_on (extends_on c.proof_of.ensures.grown c.have_needed.ensures.grown) c.ask_proof.ensures.grown
+    extends_on (extends_on c.proof_of.ensures.grown c.have_named.ensures.grown) c.ask_proof.ensures.grown
 
 pub returns-clause-grown : goal.returns-clause-grown
 returns-clause-grown g c =
-    extends_on (extends_on c.proof_of.ensures.grown c.have_needed.ensures.grown) c.ask_proof.ensures.grown
+    extends_on (extends_on c.proof_of.ensures.grown c.have_named.ensures.grown) c.ask_proof.ensures.grown
