@@ -159,7 +159,7 @@ impl<K: Copy> VariableTable<K> {
     }
 
     /// What is recorded of a variable.
-    #[inline(never)]
+    #[inline(always)]
     pub fn probe(&self, v: usize) -> VariableValue<K>
         requires { v < length self.now.items }
         ensures { result ≡ value_at self.now.items v }
