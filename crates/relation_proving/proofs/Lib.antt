@@ -1,12 +1,13 @@
 pub mod OpenedRules
 pub mod Fits
 pub mod Unbound
+pub mod Meeting
 pub mod Candidates
 pub mod GoingOn
 pub mod Answering
 pub mod OneValue
 pub mod Barred
-pub mod OtherTraits
+pub mod OtherSubjects
 pub mod Searches
 pub mod Meaning
 pub mod Checked
