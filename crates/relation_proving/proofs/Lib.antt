@@ -1,6 +1,7 @@
 pub mod OpenedRules
 pub mod Fits
 pub mod Unbound
+pub mod Said
 pub mod Meeting
 pub mod Candidates
 pub mod GoingOn

@@ -93,9 +93,11 @@ fn fit_projection<C: InferCtxtLike>(
     ensures grown { Extends (C.state ctx.old).meaning (C.state ctx.new).meaning }
 {
     let (list, others) = (goal.projection_term.args, given.projection_term.args);
-    match fit(ctx, param_env, list, others, span)? {
+    let fitting = fit(ctx, param_env, list, others, span)?;
+    match fitting {
         Fitting::Fits => fit(ctx, param_env, goal.term, given.term, span),
-        fitting => Ok(fitting),
+        Fitting::Apart => Ok(Fitting::Apart),
+        Fitting::Left => Ok(Fitting::Left),
     }
 }
 
