@@ -3,6 +3,7 @@ pub mod Fits
 pub mod Unbound
 pub mod Said
 pub mod Meeting
+pub mod Fitted
 pub mod Candidates
 pub mod GoingOn
 pub mod Answering

@@ -67,26 +67,22 @@ bodies_related c w e a b i j r =
     invariant_binders refl (open_second [] [] tt tt opened) (open_first [] [] tt tt opened)
 
 -- Lists of arguments that are related pair by pair, at invariance, are the arguments of related aliases.
-parts_of_alias : (c : Items) (w : Interpretation) (e : Tree) (k : AliasTermKind) (d i j : ℕ) (xs ys : Tree) →
+parts_of_alias : {c : Items} {w : Interpretation} {e : Tree} {i : ℕ} {xs ys : Tree} (k : AliasTermKind) (d j : ℕ) →
     Rel c w e (parts arguments i Invariant) xs ys → Rel c w e (parts (alias_term k d) j Invariant) xs ys
-parts_of_alias c w e k d i j nil nil no_parts = no_parts
-parts_of_alias c w e k d i j (cons x xs) (cons y ys) (next_part r rest) =
-    next_part r (parts_of_alias c w e k d (suc i) (suc j) xs ys rest)
+parts_of_alias k d j no_parts = no_parts
+parts_of_alias k d j (next_part r rest) = next_part r (parts_of_alias k d (suc j) rest)
 
-args_parts : (xs ys : Tree) → node arguments xs ≡ node arguments ys → xs ≡ ys
-args_parts xs ys p = parts_path p
-
-aliases_related : (c : Items) (w : Interpretation) (e : Tree) (k : AliasTermKind) (d : ℕ) (xs ys : Tree) →
+aliases_related : {c : Items} {w : Interpretation} {e : Tree} {xs ys : Tree} (k : AliasTermKind) (d : ℕ) →
     Rel c w e (at Invariant) (node arguments xs) (node arguments ys) →
     Rel c w e (at Invariant) (node (alias_term k d) xs) (node (alias_term k d) ys)
-aliases_related c w e k d xs ys (same p) = same (ap (node (alias_term k d)) (args_parts xs ys p))
-aliases_related c w e k d xs ys (anything p) = absurd cc
-aliases_related c w e k d xs ys (error_left h p) = absurd h
-aliases_related c w e k d xs ys (error_right h p) = absurd h
-aliases_related c w e k d xs ys (regions p q r) = absurd cc
-aliases_related c w e k d xs ys (alias_types p q r) = absurd cc
-aliases_related c w e k d xs ys (equal_consts p q r) = absurd cc
-aliases_related c w e k d xs ys (forms h p r) = forms tt refl (parts_of_alias c w e k d 0 0 xs ys r)
+aliases_related k d (same p) = same (ap (node (alias_term k d)) (parts_path p))
+aliases_related k d (anything p) = absurd cc
+aliases_related k d (error_left h _) = absurd h
+aliases_related k d (error_right h _) = absurd h
+aliases_related k d (regions p _ _) = absurd cc
+aliases_related k d (alias_types p _ _) = absurd cc
+aliases_related k d (equal_consts p _ _) = absurd cc
+aliases_related k d (forms i p r) = forms tt refl (parts_of_alias k d 0 r)
 
 -- What is exact of two terms is exact of two others that are unified by the same assignments.
 exact_of : (before after : Store) (a b x y : Tree) → ((s : Assign) → Unifies s a b → Unifies s x y) →
@@ -123,13 +119,13 @@ unify_both s k d xs ys t u e =
     ap₂ cons (unify_arguments s k d xs ys t u e) (unify_terms s k d xs ys t u e)
 
 module _ {Key Id Name : Type 0} where
-  abbrev args_tree : Meaning Key Id Name → ArgsKey Key → Tree
+  abbrev pub args_tree : Meaning Key Id Name → ArgsKey Key → Tree
   args_tree m k = m.args k
 
-  abbrev trait_tree : Meaning Key Id Name → TraitPredicate Key Id → Tree
+  abbrev pub trait_tree : Meaning Key Id Name → TraitPredicate Key Id → Tree
   trait_tree m p = clause_kind_tree m (Trait p)
 
-  abbrev item_tree : Meaning Key Id Name → ProjectionPredicate Key Id → Tree
+  abbrev pub item_tree : Meaning Key Id Name → ProjectionPredicate Key Id → Tree
   item_tree m p = bind [] (clause_kind_tree m (Projection p))
 
   -- Of two clauses on traits.
@@ -156,6 +152,14 @@ module _ {Key Id Name : Type 0} where
     traits_tell Apart f = λ o. apart_under c.store (trait_tree c.meaning q) (trait_tree c.meaning p)
         (f.no_unifier (pair o))
     traits_tell Left f = tt
+
+  -- What is told of the arguments of two aliases.
+  pub args_told : (c m : Context Key Id Name) (e : ParamEnvKey Key) (q p : ProjectionPredicate Key Id)
+      (fitting known_as : Fitting) → fitting ≡ known_as →
+      TellsFit c m (Some arguments) args_tree e (q.projection_term).args (p.projection_term).args fitting →
+      TellsFit c m (Some arguments) args_tree e (q.projection_term).args (p.projection_term).args known_as
+  args_told c m e q p fitting known_as is h =
+      subst (TellsFit c m (Some arguments) args_tree e (q.projection_term).args (p.projection_term).args) is h
 
   -- Of two clauses on one item, whose arguments may be related, and then what they come to.
   module _ (c : Context Key Id Name) (e : ParamEnvKey Key) (q p : ProjectionPredicate Key Id)
@@ -301,8 +305,7 @@ module _ {Key Id Name : Type 0} where
         meet = λ w s h all.
             let middle : Satisfies w m.store s = (g.sound).1 w s h in
             projections
-            (aliases_related (items_of c.meaning) w ((c.meaning).param_env e) k n (apply s xs) (apply s ys)
-            ((f.sound).0 w s middle (All-nil (Holds (items_of c.meaning) w s))))
+            (aliases_related k n ((f.sound).0 w s middle (All-nil (Holds (items_of c.meaning) w s))))
             (subst₂ (λ x y. Rel (items_of c.meaning) w ((c.meaning).param_env e) (at Invariant) (apply s x) (apply s y))
             (same_left m grown later) (same_right m grown later)
             (subst₂ (λ x y. Rel x w y (at Invariant) (apply s (term_tree m.meaning q.term))

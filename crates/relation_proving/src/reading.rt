@@ -9,14 +9,11 @@ ghost use Rattle.relation_proving.specs.Subjects.{args_of as arguments_of, AreOf
 use crate::opening::RuleOf;
 use relation_folds::visit::has_non_region_infer;
 use relation_semantics::infer_ctxt::InferCtxtLike;
-use relation_terms::predicate::{ClauseForm, ClauseKind, ProjectionPredicate, TraitPredicate};
+use relation_terms::predicate::{ClauseForm, ClauseKind, ProjectionPredicate};
 use relation_terms::terms::{ArgsKey, Clause, Interner, Keys};
 
 /// What an interner's clause says.
 pub type ClauseKindOf<I> = ClauseKind<<I as Keys>::Key, <I as Keys>::Id, <I as Keys>::Name>;
-
-/// What it says of a trait.
-pub type TraitPredicateOf<I> = TraitPredicate<<I as Keys>::Key, <I as Keys>::Id>;
 
 /// What it says of an item of a trait, or of another alias: to what it comes.
 pub type ProjectionPredicateOf<I> = ProjectionPredicate<<I as Keys>::Key, <I as Keys>::Id>;
