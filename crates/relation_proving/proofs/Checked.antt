@@ -88,10 +88,14 @@ module _ {Key Id Name : Type 0} where
   -- A goal.
   module _ (c : Context Key Id Name) (k : ClauseKey Key) (b : Binder Key (ClauseKind Key Id Name))
       (e : (c.meaning).clause k ≡ clause_tree c.meaning b) (h : IsTrue (known ((c.meaning).clause k))) where
-    pub goal_passed : {E : Type 0} (r : Result (Unit {0}) E) (answer : Bool) → IsOfTraitOrItem b.value →
-        answer ≡ is_ok r → OnOk r (MayBeRelated c.store (clause_tree c.meaning b)) →
-        OnErr r (MayBeRelated c.store (clause_tree c.meaning b) → ⊥) → IsTrue answer ↔ IsProvableGoal c k
-    goal_passed r answer says is may may_not = let p = tested r answer (MayBeRelated c.store (clause_tree c.meaning b)) is may may_not in (
+    pub goal_known : (p : ClauseKind Key Id Name) → b.value ≡ p →
+        IsTrue (known (under ((c.meaning).bound_vars b.bound_vars) (clause_kind_tree c.meaning p)))
+    goal_known p is = subst (λ z. IsTrue (known (under ((c.meaning).bound_vars b.bound_vars) (clause_kind_tree c.meaning z))))
+        is (subst (λ t. IsTrue (known t)) e h)
+
+    goal_by : (answer : Bool) → IsOfTraitOrItem b.value →
+        IsTrue answer ↔ MayBeRelated c.store (clause_tree c.meaning b) → IsTrue answer ↔ IsProvableGoal c k
+    goal_by answer says p = (
       λ t. let q = subst (MayBeRelated c.store) (sym e) (p.0 t) in
           record {
             provable = record { form = b; means = e; says = says };
@@ -99,6 +103,16 @@ module _ {Key Id Name : Type 0} where
           },
       λ g. p.1 (subst (MayBeRelated c.store) e ((g.may).is_in, (g.may).taken)),
     )
+
+    pub goal_passed : {E : Type 0} (p : ClauseKind Key Id Name) → b.value ≡ p → IsOfTraitOrItem p →
+        (r : Result (Unit {0}) E) (answer : Bool) → answer ≡ is_ok r →
+        OnOk r (MayBeRelated c.store (under ((c.meaning).bound_vars b.bound_vars) (clause_kind_tree c.meaning p))) →
+        OnErr r (MayBeRelated c.store (under ((c.meaning).bound_vars b.bound_vars) (clause_kind_tree c.meaning p)) → ⊥) →
+        IsTrue answer ↔ IsProvableGoal c k
+    goal_passed p is says r answer ok may may_not = goal_by answer (subst IsOfTraitOrItem (sym is) says)
+        (subst (λ z. IsTrue answer ↔ MayBeRelated c.store (under ((c.meaning).bound_vars b.bound_vars)
+        (clause_kind_tree c.meaning z))) (sym is) (tested r answer
+        (MayBeRelated c.store (under ((c.meaning).bound_vars b.bound_vars) (clause_kind_tree c.meaning p))) ok may may_not))
 
     pub no_goal : (IsOfTraitOrItem b.value → ⊥) → IsTrue false ↔ IsProvableGoal c k
     no_goal n = (
@@ -113,20 +127,34 @@ module _ {Key Id Name : Type 0} where
     abbrev stands_as : Tree → Tree
     stands_as t = under ((c.meaning).bound_vars v) t
 
-    pub part_known : IsSome ((c.meaning).bound_vars v) → IsTrue (known (stands_as (clause_tree c.meaning b)))
-    part_known i = known_under ((c.meaning).bound_vars v) (clause_tree c.meaning b) i
-        (subst (λ t. IsTrue (known t)) e h)
+    pub part_known : (p : ClauseKind Key Id Name) → b.value ≡ p → IsSome ((c.meaning).bound_vars v) →
+        IsTrue (known (stands_as (under ((c.meaning).bound_vars b.bound_vars) (clause_kind_tree c.meaning p))))
+    part_known p is i = subst (λ z. IsTrue (known (stands_as (under ((c.meaning).bound_vars b.bound_vars)
+        (clause_kind_tree c.meaning z))))) is
+        (known_under ((c.meaning).bound_vars v) (clause_tree c.meaning b) i (subst (λ t. IsTrue (known t)) e h))
 
-    pub part_passed : {E : Type 0} (r : Result (Unit {0}) E) (answer : Bool) → IsOfTraitOrItem b.value →
-        answer ≡ is_ok r → OnOk r (MayBeRelated c.store (stands_as (clause_tree c.meaning b))) →
-        OnErr r (MayBeRelated c.store (stands_as (clause_tree c.meaning b)) → ⊥) → IsTrue answer ↔ IsProvablePart c v k
-    part_passed r answer says is may may_not = let p = tested r answer (MayBeRelated c.store (stands_as (clause_tree c.meaning b))) is may may_not in (
+    part_by : (answer : Bool) → IsOfTraitOrItem b.value →
+        IsTrue answer ↔ MayBeRelated c.store (stands_as (clause_tree c.meaning b)) →
+        IsTrue answer ↔ IsProvablePart c v k
+    part_by answer says p = (
       λ t. record {
         provable = record { form = b; means = e; says = says };
         stands = subst (λ z. MayBeRelated c.store (stands_as z)) (sym e) (p.0 t);
       },
       λ g. p.1 (subst (λ z. MayBeRelated c.store (stands_as z)) e g.stands),
     )
+
+    pub part_passed : {E : Type 0} (p : ClauseKind Key Id Name) → b.value ≡ p → IsOfTraitOrItem p →
+        (r : Result (Unit {0}) E) (answer : Bool) → answer ≡ is_ok r →
+        OnOk r (MayBeRelated c.store
+        (stands_as (under ((c.meaning).bound_vars b.bound_vars) (clause_kind_tree c.meaning p)))) →
+        OnErr r (MayBeRelated c.store
+        (stands_as (under ((c.meaning).bound_vars b.bound_vars) (clause_kind_tree c.meaning p))) → ⊥) →
+        IsTrue answer ↔ IsProvablePart c v k
+    part_passed p is says r answer ok may may_not = part_by answer (subst IsOfTraitOrItem (sym is) says)
+        (subst (λ z. IsTrue answer ↔ MayBeRelated c.store (stands_as (under ((c.meaning).bound_vars b.bound_vars)
+        (clause_kind_tree c.meaning z)))) (sym is) (tested r answer (MayBeRelated c.store
+        (stands_as (under ((c.meaning).bound_vars b.bound_vars) (clause_kind_tree c.meaning p)))) ok may may_not))
 
     pub no_part : (IsOfTraitOrItem b.value → ⊥) → IsTrue false ↔ IsProvablePart c v k
     no_part n = (

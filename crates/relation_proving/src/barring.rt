@@ -9,7 +9,7 @@ ghost use Rattle.relation_proving.specs.Candidates.{MayAsk};
 ghost use Rattle.relation_proving.specs.RuleTerms.{MayUse};
 
 use crate::opening::RuleOf;
-use crate::reading::{args_of, clause_body, gives_another};
+use crate::reading::{args_of_both, clause_body, gives_another};
 use fast_reject::DeepRejectCtxt;
 use relation_semantics::infer_ctxt::InferCtxtLike;
 use relation_terms::terms::{Clause, GenericArg, GenericArgKind, Interner, Ty};
@@ -92,14 +92,12 @@ fn clauses_bar<C: InferCtxtLike>(
         return false;
     };
     let form = cx.clause_kind(given);
-    match (args_of(&goal), args_of(&form.value)) {
-        (Some(list), Some(others)) => {
-            let list = cx.args(&list);
-            let others = cx.args(&others);
-            args_bar(ctx, list, others)
-        }
-        _ => false,
-    }
+    let Some((left, right)) = args_of_both(&goal, &form.value) else {
+        return false;
+    };
+    let list = cx.args(&left);
+    let others = cx.args(&right);
+    args_bar(ctx, list, others)
 }
 
 // Whether the first clause of a rule has another form than a goal.

@@ -1,5 +1,5 @@
 //! Clauses whose binders bind nothing, those that come to one thing, and of which traits and items clauses are.
-ghost use Rattle.std.specs.Prelude.{◌≡◌, IsSome, IsTrue, not};
+ghost use Rattle.std.specs.Prelude.{◌≡◌, IfSome, IsSome, IsTrue, Some, not};
 ghost use Rattle.relation_terms.specs.Trees.{known};
 ghost use Rattle.relation_folds.specs.Visits.{non_region_infer_stands};
 ghost use Rattle.relation_proving.specs.Bodies.{FindsBody, FindsUnbound};
@@ -49,8 +49,8 @@ pub(crate) fn comes_to_one<C: InferCtxtLike>(ctx: &C, clause: &Clause<C::Interne
     !has_non_region_infer(ctx.cx(), clause)
 }
 
-/// The arguments of the trait or the item that a clause says something of.
-pub(crate) fn args_of<X: Copy, D: Copy, N: Copy>(kind: &ClauseKind<X, D, N>) -> Option<ArgsKey<X>>
+// The arguments of the trait or the item that a clause says something of.
+fn args_of<X: Copy, D: Copy, N: Copy>(kind: &ClauseKind<X, D, N>) -> Option<ArgsKey<X>>
     ensures { result ≡ arguments_of kind.now }
 {
     match kind {
@@ -58,6 +58,19 @@ pub(crate) fn args_of<X: Copy, D: Copy, N: Copy>(kind: &ClauseKind<X, D, N>) -> 
         ClauseKind::Projection(of) => Some(of.projection_term.args),
         _ => None,
     }
+}
+
+/// The same of two clauses.
+pub(crate) fn args_of_both<X: Copy, D: Copy, N: Copy>(
+    first: &ClauseKind<X, D, N>,
+    second: &ClauseKind<X, D, N>,
+) -> Option<(ArgsKey<X>, ArgsKey<X>)>
+    ensures first { IfSome result (λ p. arguments_of first.now ≡ Some p.0) }
+    ensures second { IfSome result (λ p. arguments_of second.now ≡ Some p.1) }
+{
+    let left = args_of(first)?;
+    let right = args_of(second)?;
+    Some((left, right))
 }
 
 /// Whether two clauses say something of two traits, of two items, or of a trait and an item.
