@@ -23,7 +23,7 @@ use Rattle.relation_proving.specs.RuleTerms.{KnowsRule, rule_tree}
 use Rattle.relation_proving.specs.Checking.{IsOfTraitOrItem, IsProvable, AreProvable, IsProvableGoal, IsProvablePart, IsProvableRule}
 
 -- A test says just what is so, and one that fails where it would not that nothing is.
-tested : {E : Type 0} (r : Result (Unit {0}) E) (b : Bool) (P : Type 0) → b ≡ is_ok r → OnOk r P →
+pub tested : {E : Type 0} (r : Result (Unit {0}) E) (b : Bool) (P : Type 0) → b ≡ is_ok r → OnOk r P →
     OnErr r (P → ⊥) → IsTrue b ↔ P
 tested (Ok x) b P e is other = (λ t. is, λ p. e)
 tested (Err x) b P e is other = (λ t. absurd (false≢true (sym e ∙ t)), λ p. absurd (other p))
@@ -104,15 +104,12 @@ module _ {Key Id Name : Type 0} where
       λ g. p.1 (subst (MayBeRelated c.store) e ((g.may).is_in, (g.may).taken)),
     )
 
-    pub goal_passed : {E : Type 0} (p : ClauseKind Key Id Name) → b.value ≡ p → IsOfTraitOrItem p →
-        (r : Result (Unit {0}) E) (answer : Bool) → answer ≡ is_ok r →
-        OnOk r (MayBeRelated c.store (under ((c.meaning).bound_vars b.bound_vars) (clause_kind_tree c.meaning p))) →
-        OnErr r (MayBeRelated c.store (under ((c.meaning).bound_vars b.bound_vars) (clause_kind_tree c.meaning p)) → ⊥) →
+    pub goal_passed : (p : ClauseKind Key Id Name) → b.value ≡ p → IsOfTraitOrItem p → (answer : Bool) →
+        IsTrue answer ↔ MayBeRelated c.store (under ((c.meaning).bound_vars b.bound_vars) (clause_kind_tree c.meaning p)) →
         IsTrue answer ↔ IsProvableGoal c k
-    goal_passed p is says r answer ok may may_not = goal_by answer (subst IsOfTraitOrItem (sym is) says)
+    goal_passed p is says answer may = goal_by answer (subst IsOfTraitOrItem (sym is) says)
         (subst (λ z. IsTrue answer ↔ MayBeRelated c.store (under ((c.meaning).bound_vars b.bound_vars)
-        (clause_kind_tree c.meaning z))) (sym is) (tested r answer
-        (MayBeRelated c.store (under ((c.meaning).bound_vars b.bound_vars) (clause_kind_tree c.meaning p))) ok may may_not))
+        (clause_kind_tree c.meaning z))) (sym is) may)
 
     pub no_goal : (IsOfTraitOrItem b.value → ⊥) → IsTrue false ↔ IsProvableGoal c k
     no_goal n = (
@@ -144,17 +141,13 @@ module _ {Key Id Name : Type 0} where
       λ g. p.1 (subst (λ z. MayBeRelated c.store (stands_as z)) e g.stands),
     )
 
-    pub part_passed : {E : Type 0} (p : ClauseKind Key Id Name) → b.value ≡ p → IsOfTraitOrItem p →
-        (r : Result (Unit {0}) E) (answer : Bool) → answer ≡ is_ok r →
-        OnOk r (MayBeRelated c.store
-        (stands_as (under ((c.meaning).bound_vars b.bound_vars) (clause_kind_tree c.meaning p)))) →
-        OnErr r (MayBeRelated c.store
-        (stands_as (under ((c.meaning).bound_vars b.bound_vars) (clause_kind_tree c.meaning p))) → ⊥) →
+    pub part_passed : (p : ClauseKind Key Id Name) → b.value ≡ p → IsOfTraitOrItem p → (answer : Bool) →
+        IsTrue answer ↔ MayBeRelated c.store
+        (stands_as (under ((c.meaning).bound_vars b.bound_vars) (clause_kind_tree c.meaning p))) →
         IsTrue answer ↔ IsProvablePart c v k
-    part_passed p is says r answer ok may may_not = part_by answer (subst IsOfTraitOrItem (sym is) says)
+    part_passed p is says answer may = part_by answer (subst IsOfTraitOrItem (sym is) says)
         (subst (λ z. IsTrue answer ↔ MayBeRelated c.store (stands_as (under ((c.meaning).bound_vars b.bound_vars)
-        (clause_kind_tree c.meaning z)))) (sym is) (tested r answer (MayBeRelated c.store
-        (stands_as (under ((c.meaning).bound_vars b.bound_vars) (clause_kind_tree c.meaning p)))) ok may may_not))
+        (clause_kind_tree c.meaning z)))) (sym is) may)
 
     pub no_part : (IsOfTraitOrItem b.value → ⊥) → IsTrue false ↔ IsProvablePart c v k
     no_part n = (

@@ -1,14 +1,29 @@
 //! Whether a goal and rules may be handed to a solver, where all that is known of them is that an interner knows them.
 ghost use Rattle.std.specs.Prelude.{◌↔◌, All, IsTrue, IsSome};
+ghost use Rattle.relation_terms.specs.Meaning.{under};
 ghost use Rattle.relation_terms.specs.Trees.{known};
+ghost use Rattle.may_relate.specs.Fitting.{MayBeRelated};
 ghost use Rattle.relation_proving.specs.RuleTerms.{KnowsRule};
 ghost use Rattle.relation_proving.specs.Checking.{IsProvableGoal, IsProvablePart, IsProvableRule};
 
 use crate::opening::RuleOf;
-use may_relate::{HasVariables, may_relate};
+use may_relate::{HasVariables, Relatable, may_relate};
 use relation_semantics::infer_ctxt::InferCtxtLike;
 use relation_terms::predicate::ClauseKind;
 use relation_terms::terms::{Binder, BoundVars, Clause, Interner};
+
+// Whether a term may be related under a binder of this list.
+fn may_stand<C: HasVariables, T: Relatable<C> + Copy>(
+    ctx: &C,
+    value: T,
+    bound_vars: BoundVars<C::Interner>,
+) -> bool
+    requires { let m = (C.state ctx.now).meaning in IsTrue (known (under (m.bound_vars bound_vars) (T.tree m value))) }
+    ensures { let c = C.state ctx.now in let m = c.meaning in
+        IsTrue result ↔ MayBeRelated c.store (under (m.bound_vars bound_vars) (T.tree m value)) }
+{
+    may_relate(ctx, &Binder { value, bound_vars }).is_ok()
+}
 
 /// Whether a clause, which the interner knows, says that a trait is implemented, or to what an alias comes, and may be a
 /// goal: its variables are the context's, its placeholders of no later universe than the current one, no stand-in is in
@@ -19,8 +34,8 @@ pub fn goal_may_be_asked<C: HasVariables>(ctx: &C, goal: &Clause<C::Interner>) -
 {
     let Binder { value, bound_vars } = ctx.cx().clause_kind(goal);
     match value {
-        ClauseKind::Trait(value) => may_relate(ctx, &Binder { value, bound_vars }).is_ok(),
-        ClauseKind::Projection(value) => may_relate(ctx, &Binder { value, bound_vars }).is_ok(),
+        ClauseKind::Trait(value) => may_stand(ctx, value, bound_vars),
+        ClauseKind::Projection(value) => may_stand(ctx, value, bound_vars),
         _ => false,
     }
 }
@@ -37,20 +52,8 @@ fn clause_may_stand<C: HasVariables>(
 {
     let Binder { value, bound_vars } = ctx.cx().clause_kind(clause);
     match value {
-        ClauseKind::Trait(of) => {
-            let form = Binder {
-                value: of,
-                bound_vars,
-            };
-            may_relate(ctx, &Binder { value: form, bound_vars: around }).is_ok()
-        }
-        ClauseKind::Projection(of) => {
-            let value = Binder {
-                value: of,
-                bound_vars,
-            };
-            may_relate(ctx, &Binder { value, bound_vars: around }).is_ok()
-        }
+        ClauseKind::Trait(value) => may_stand(ctx, Binder { value, bound_vars }, around),
+        ClauseKind::Projection(value) => may_stand(ctx, Binder { value, bound_vars }, around),
         _ => false,
     }
 }

@@ -27,8 +27,13 @@ fn are_of_one_kind<D>(first: &AliasTermKind<D>, second: &AliasTermKind<D>) -> bo
 {
     matches!(
         (first, second),
-        (AliasTermKind::ProjectionTy { .. }, AliasTermKind::ProjectionTy { .. })
-            | (AliasTermKind::ProjectionConst { .. }, AliasTermKind::ProjectionConst { .. })
+        (
+            AliasTermKind::ProjectionTy { .. },
+            AliasTermKind::ProjectionTy { .. }
+        ) | (
+            AliasTermKind::ProjectionConst { .. },
+            AliasTermKind::ProjectionConst { .. }
+        )
     )
 }
 
@@ -50,11 +55,7 @@ fn are_of_one_item<I: Interner>(
 }
 
 // The same of what two such clauses say.
-fn said<I: Interner>(
-    cx: &I,
-    goal: ClauseKindOf<I>,
-    given: ClauseKindOf<I>,
-) -> Bodies<I::Key, I::Id>
+fn said<I: Interner>(cx: &I, goal: ClauseKindOf<I>, given: ClauseKindOf<I>) -> Bodies<I::Key, I::Id>
     requires goal_known { IsTrue (known (clause_kind_tree (I.meaning cx.now) goal)) }
     requires given_known { IsTrue (known (clause_kind_tree (I.meaning cx.now) given)) }
     ensures { TellsKinds (I.meaning cx.now) goal given result }

@@ -49,11 +49,17 @@ fn clause_refusal<C: HasVariables>(
     let form = ctx.cx().clause_kind(clause);
     match form.value {
         ClauseKind::Trait(of) => {
-            let value = Binder { value: of, bound_vars: form.bound_vars };
+            let value = Binder {
+                value: of,
+                bound_vars: form.bound_vars,
+            };
             term_refusal(ctx, &Binder { value, bound_vars })
         }
         ClauseKind::Projection(of) => {
-            let value = Binder { value: of, bound_vars: form.bound_vars };
+            let value = Binder {
+                value: of,
+                bound_vars: form.bound_vars,
+            };
             term_refusal(ctx, &Binder { value, bound_vars })
         }
         _ => Some(WhyNot::NoTrait),

@@ -74,8 +74,7 @@ impl<'a> Namer<'a> {
     // What an impl says that a type or a constant of its trait is.
     fn assigned(&mut self, given: &Node, number: usize) -> Result<Clause, NameError> {
         let node = self.node(given, number)?;
-        let ([generics, of, ty, ..], [name, term]) = (self.parts(given)?, self.parts(&node)?)
-        else {
+        let ([generics, of, ty, ..], [name, term]) = (self.parts(given)?, self.parts(&node)?) else {
             return Err(error_at(&node, Wrong::NotRead));
         };
         let named = self.given_alone(given, *of)?;

@@ -10,8 +10,8 @@ pub clause_kind-requires : goal.clause_kind-requires
 clause_kind-requires g c =
     subst (λ m. IsTrue (known (m.clause c.args.goal.now))) (sym c.cx.ensures) c.requires
 
-pub may_relate-requires : goal.may_relate-requires
-may_relate-requires g c =
+pub may_stand-requires : goal.may_stand-requires
+may_stand-requires g c =
     let s = g.C.InferCtxtLike.state c.args.ctx.now in
     let b = c.clause_kind.result in
     let e = subst (λ m. m.clause c.args.goal.now ≡ clause_tree m b) c.cx.ensures c.clause_kind.ensures in
@@ -22,5 +22,20 @@ returns-in-Trait g c =
     let s = g.C.InferCtxtLike.state c.args.ctx.now in
     let b = c.clause_kind.result in
     let e = subst (λ m. m.clause c.args.goal.now ≡ clause_tree m b) c.cx.ensures c.clause_kind.ensures in
-    goal_passed s c.args.goal.now b e c.requires (Trait c.in-Trait.value) c.in-Trait.is tt c.may_relate.result
-    c.is_ok.result c.is_ok.ensures.value c.may_relate.ensures.may c.may_relate.ensures.may_not
+    goal_passed s c.args.goal.now b e c.requires (Trait c.in-Trait.value) c.in-Trait.is tt c.may_stand.result
+    c.may_stand.ensures
+
+pub may_stand-in-Projection-requires : goal.may_stand-in-Projection-requires
+may_stand-in-Projection-requires g c =
+    let s = g.C.InferCtxtLike.state c.args.ctx.now in
+    let b = c.clause_kind.result in
+    let e = subst (λ m. m.clause c.args.goal.now ≡ clause_tree m b) c.cx.ensures c.clause_kind.ensures in
+    goal_known s c.args.goal.now b e c.requires (Projection c.in-Projection.value) c.in-Projection.is
+
+pub returns-in-Projection : goal.returns-in-Projection
+returns-in-Projection g c =
+    let s = g.C.InferCtxtLike.state c.args.ctx.now in
+    let b = c.clause_kind.result in
+    let e = subst (λ m. m.clause c.args.goal.now ≡ clause_tree m b) c.cx.ensures c.clause_kind.ensures in
+    goal_passed s c.args.goal.now b e c.requires (Projection c.in-Projection.value) c.in-Projection.is tt c.may_stand-in-Projection.result
+    c.may_stand-in-Projection.ensures

@@ -45,11 +45,7 @@ pub(in crate::reading) static GIVES: [Shape; 2] = [
 
 pub(in crate::reading) static ASSIGNED: [Shape; 1] = [(
     Node(Form::Assigned),
-    &[
-        Leaf(Expected::Name),
-        Mark(Sign::Assign),
-        Part(Sort::Term),
-    ],
+    &[Leaf(Expected::Name), Mark(Sign::Assign), Part(Sort::Term)],
 )];
 
 // What an impl is generic over, or the list that is left out.
