@@ -77,7 +77,7 @@ fn said<I: Interner>(cx: &I, goal: ClauseKindOf<I>, given: ClauseKindOf<I>) -> B
 }
 
 /// What two clauses say whose binders bind nothing. The interner has to know both.
-pub(crate) fn bodies<I: Interner>(
+pub(crate) fn compare<I: Interner>(
     cx: &I,
     goal: &Clause<I>,
     given: &Clause<I>,

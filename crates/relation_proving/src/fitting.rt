@@ -12,7 +12,7 @@ ghost use Rattle.relation_proving.specs.Bodies.{AreOfOneItem};
 ghost use Rattle.relation_proving.specs.Candidates.{MayFit, MayAsk, TellsClauses};
 ghost use Rattle.relation_proving.specs.Fitting.{fitting_after, TellsFit};
 
-use crate::comparing::{Bodies, bodies};
+use crate::comparing::{Bodies, compare};
 use crate::reading::ProjectionPredicateOf;
 use relation_folds::error::{RelateFault, RelateResult};
 use relation_recursion::relatable::Relate;
@@ -123,7 +123,7 @@ pub(crate) fn fit_clauses<C: InferCtxtLike>(
     ensures lawful { (C.state ctx.new).lawful }
     ensures grown { Extends (C.state ctx.old).meaning (C.state ctx.new).meaning }
 {
-    match bodies(ctx.cx(), goal, given) {
+    match compare(ctx.cx(), goal, given) {
         Bodies::OfTrait(goal, given) => fit(ctx, param_env, goal, given, span),
         Bodies::OfItem(goal, given) => fit_projection(ctx, param_env, goal, given, span),
         Bodies::OfTwo => Ok(Fitting::Apart),

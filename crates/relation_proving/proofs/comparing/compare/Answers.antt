@@ -1,5 +1,5 @@
 use Rattle.relation_proving.proofs.Said.{body_known, are_said}
-use Rattle.relation_proving.proofs.comparing.bodies.Goals as goal
+use Rattle.relation_proving.proofs.comparing.compare.Goals as goal
 
 pub said-requires : goal.said-requires
 said-requires g c = record {
