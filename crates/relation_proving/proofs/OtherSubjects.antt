@@ -33,14 +33,14 @@ over_value : {Key Id Name : Type 0} (m : Meaning Key Id Name) (p : ClauseKind Ke
     IsOver m p (apply s (clause_kind_tree m p))
 over_value m (Trait p) s = (apply s (m.args (p.trait_ref).args), refl)
 over_value m (Projection p) s =
-    (apply s (m.args (p.projection_term).args), (apply s (term_tree m p.term), refl))
+    (apply s (m.args (p.projection_term).args), apply s (term_tree m p.term), refl)
 over_value m _ s = tt
 
 over_opened : {Key Id Name : Type 0} (m : Meaning Key Id Name) (p : ClauseKind Key Id Name) (xs : List Tree) (d : ℕ) →
     IsOver m p (inst xs d (clause_kind_tree m p))
 over_opened m (Trait p) xs d = (inst xs d (m.args (p.trait_ref).args), refl)
 over_opened m (Projection p) xs d =
-    (inst xs d (m.args (p.projection_term).args), (inst xs d (term_tree m p.term), refl))
+    (inst xs d (m.args (p.projection_term).args), inst xs d (term_tree m p.term), refl)
 over_opened m _ xs d = tt
 
 -- Two that come to one are of one trait.
@@ -65,14 +65,14 @@ pub two_apart : {Key Id Name : Type 0} (m : Meaning Key Id Name) (q p : ClauseKi
 two_apart m (Trait q) (Trait p) x y two i j e = two (one_trait q.polarity p.polarity (m.id ((q.trait_ref).def_id).0)
     (m.id ((p.trait_ref).def_id).0) i.0 j.0 (ap erase (sym i.1) ∙ (e ∙ ap erase j.1)))
 two_apart m (Trait q) (Projection p) x y two i j e = no_item q.polarity (alias_term_kind (p.projection_term).kind)
-    (m.id ((q.trait_ref).def_id).0) (m.id (alias_term_id (p.projection_term).kind)) i.0 j.0 j.1.0
-    (ap erase (sym i.1) ∙ (e ∙ ap erase j.1.1))
+    (m.id ((q.trait_ref).def_id).0) (m.id (alias_term_id (p.projection_term).kind)) i.0 j.0 j.1
+    (ap erase (sym i.1) ∙ (e ∙ ap erase j.2))
 two_apart m (Projection q) (Trait p) x y two i j e = no_item p.polarity (alias_term_kind (q.projection_term).kind)
-    (m.id ((p.trait_ref).def_id).0) (m.id (alias_term_id (q.projection_term).kind)) j.0 i.0 i.1.0
-    (ap erase (sym j.1) ∙ (sym e ∙ ap erase i.1.1))
+    (m.id ((p.trait_ref).def_id).0) (m.id (alias_term_id (q.projection_term).kind)) j.0 i.0 i.1
+    (ap erase (sym j.1) ∙ (sym e ∙ ap erase i.2))
 two_apart m (Projection q) (Projection p) x y two i j e = two (one_item (alias_term_kind (q.projection_term).kind)
     (alias_term_kind (p.projection_term).kind) (m.id (alias_term_id (q.projection_term).kind))
-    (m.id (alias_term_id (p.projection_term).kind)) i.0 j.0 i.1.0 j.1.0 (ap erase (sym i.1.1) ∙ (e ∙ ap erase j.1.1)))
+    (m.id (alias_term_id (p.projection_term).kind)) i.0 j.0 i.1 j.1 (ap erase (sym i.2) ∙ (e ∙ ap erase j.2)))
 two_apart m _ _ x y two i j e = absurd two
 
 -- Under binders too.
