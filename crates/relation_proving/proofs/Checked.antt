@@ -4,8 +4,10 @@ use Rattle.std.proofs.Common.{IsTrue, All, Result, Ok, Err, ℕ, ◌<◌, length
 use Rattle.std.specs.Prelude.{is_ok, OnOk, OnErr, IsSome}
 use Rattle.std.proofs.lemmas.Bool.{false≢true}
 use Rattle.std.proofs.lemmas.List.Elements.{All-nil, All-cons, All-head, All-tail, All-get_or}
+use Rattle.relation_terms.specs.declared.predicate.alias_term.ProjectionPredicate.{ProjectionPredicate}
 use Rattle.relation_terms.specs.declared.predicate.kinds.ClauseKind.{ClauseKind}
 use Rattle.relation_terms.specs.declared.predicate.kinds.ClauseKind.TheVariants.{Trait, Projection}
+use Rattle.relation_terms.specs.declared.predicate.trait_ref.TraitPredicate.{TraitPredicate}
 use Rattle.relation_terms.specs.declared.terms.binder.Binder.{Binder}
 use Rattle.relation_terms.specs.declared.terms.keys.BoundVarsKey.{BoundVarsKey}
 use Rattle.relation_terms.specs.declared.terms.keys.ClauseKey.{ClauseKey}
@@ -76,6 +78,12 @@ module _ {Key Id Name : Type 0} (m : Meaning Key Id Name) where
   said_otherwise (Projection p) n = absurd (n tt)
   said_otherwise _ n = refl
 
+  not_of : (p : ClauseKind Key Id Name) → ((q : TraitPredicate Key Id) → p ≡ Trait q → ⊥) →
+      ((q : ProjectionPredicate Key Id) → p ≡ Projection q → ⊥) → IsOfTraitOrItem p → ⊥
+  not_of (Trait q) f k h = f q refl
+  not_of (Projection q) f k h = k q refl
+  not_of _ f k h = h
+
   -- One tree is of one kind.
   no_other : (t : Tree) (b : Binder Key (ClauseKind Key Id Name)) → IsTrue (known t) → t ≡ clause_tree m b →
       (IsOfTraitOrItem b.value → ⊥) → IsProvable m t → ⊥
@@ -111,10 +119,11 @@ module _ {Key Id Name : Type 0} where
         (subst (λ z. IsTrue answer ↔ MayBeRelated c.store (under ((c.meaning).bound_vars b.bound_vars)
         (clause_kind_tree c.meaning z))) (sym is) may)
 
-    pub no_goal : (IsOfTraitOrItem b.value → ⊥) → IsTrue false ↔ IsProvableGoal c k
-    no_goal n = (
+    pub no_goal : ((q : TraitPredicate Key Id) → b.value ≡ Trait q → ⊥) →
+        ((q : ProjectionPredicate Key Id) → b.value ≡ Projection q → ⊥) → IsTrue false ↔ IsProvableGoal c k
+    no_goal f g = (
       λ t. absurd (false≢true t),
-      λ g. absurd (no_other c.meaning ((c.meaning).clause k) b h e n g.provable),
+      λ p. absurd (no_other c.meaning ((c.meaning).clause k) b h e (not_of c.meaning b.value f g) p.provable),
     )
 
   -- A clause under the binder of a rule.
@@ -149,10 +158,11 @@ module _ {Key Id Name : Type 0} where
         (subst (λ z. IsTrue answer ↔ MayBeRelated c.store (stands_as (under ((c.meaning).bound_vars b.bound_vars)
         (clause_kind_tree c.meaning z)))) (sym is) may)
 
-    pub no_part : (IsOfTraitOrItem b.value → ⊥) → IsTrue false ↔ IsProvablePart c v k
-    no_part n = (
+    pub no_part : ((q : TraitPredicate Key Id) → b.value ≡ Trait q → ⊥) →
+        ((q : ProjectionPredicate Key Id) → b.value ≡ Projection q → ⊥) → IsTrue false ↔ IsProvablePart c v k
+    no_part f g = (
       λ t. absurd (false≢true t),
-      λ g. absurd (no_other c.meaning ((c.meaning).clause k) b h e n g.provable),
+      λ p. absurd (no_other c.meaning ((c.meaning).clause k) b h e (not_of c.meaning b.value f g) p.provable),
     )
 
   -- All clauses of a list under such a binder, and the list.

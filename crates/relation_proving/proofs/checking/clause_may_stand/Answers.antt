@@ -41,4 +41,8 @@ returns-in-Projection g c =
     c.may_stand-in-Projection.ensures
 
 pub returns-in_default : goal.returns-in_default
-returns-in_default g c = ?
+returns-in_default g c =
+    let s = g.C.InferCtxtLike.state c.args.ctx.now in
+    let b = c.clause_kind-value.result in
+    let e = subst (λ m. m.clause c.args.clause.now ≡ clause_tree m b) c.cx.ensures c.clause_kind-value.ensures in
+    no_part s c.args.around c.args.clause.now b e c.requires.clause_known c.in_default.not-Trait c.in_default.not-Projection
