@@ -80,7 +80,7 @@ pub fn proof_text<I: Interner>(proof: &ProofResult<I>) -> &'static str
 pub fn write_unasked<W: Write>(why: WhyNot, out: &mut W) -> fmt::Result {
     out.write_str(match why {
         WhyNot::Open => "not asked: a variable stands in an impl or in what is assumed",
-        WhyNot::NoTrait => "not asked: it is asked of traits alone",
+        WhyNot::NoTrait => "not asked: it is asked of traits and their types alone",
         WhyNot::Unfit(Unfit::LaterUniverse(_)) => {
             "not asked: the context's universe does not name the placeholder"
         }
