@@ -1,0 +1,4 @@
+pub mod Following
+pub mod Asking
+pub mod Meeting
+pub mod Opening
