@@ -1,4 +1,4 @@
 pub mod Following
-pub mod Asking
+pub mod Bounds
 pub mod Meeting
 pub mod Opening

@@ -1,5 +1,5 @@
 -- What is known of the bounds so far.
-use Rattle.relation_impls.proofs.Asking.{AskedSoFar}
+use Rattle.relation_impls.proofs.Bounds.{AskedSoFar}
 use Rattle.relation_impls.proofs.asking.bounds_hold.Given as goal
 
 abbrev pub invariant-loop-place : goal.invariant-loop-place
