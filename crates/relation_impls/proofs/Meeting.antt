@@ -12,7 +12,6 @@ use Rattle.relation_terms.specs.Erasure.{erase}
 use Rattle.relation_semantics.specs.Contexts.{Context}
 use Rattle.relation_semantics.specs.FirstOrder.{IsErasedSolution}
 use Rattle.relation_semantics.specs.Relation.{IsValueLeaf}
-use Rattle.relation_semantics.specs.Steps.{AgreeErased}
 use Rattle.relation_semantics.specs.Stores.{InContext}
 use Rattle.relation_semantics.proofs.Exactness.{same_erased}
 use Rattle.relation_semantics.proofs.Standing.{term_context}
@@ -20,18 +19,18 @@ use Rattle.relation_semantics.proofs.Values.{variables_fit}
 use Rattle.relation_solver.specs.Rules.{Rule, one, all, Follows}
 use Rattle.relation_solver.proofs.Opened.{opened_value, opened_values, variables_namable, before_making}
 use Rattle.relation_solver.proofs.Opened.{opened_are_unconstrained}
-use Rattle.relation_solver.proofs.Solving.{follows_one, follows_all, fitted, fitted_agrees, asks_alike}
+use Rattle.relation_solver.proofs.Solving.{follows_all, fitted, fitted_agrees, asks_alike}
 use Rattle.relation_proving.specs.declared.candidate.Candidate.{Candidate}
 use Rattle.relation_proving.specs.declared.candidate.Candidate.TheVariants.{Asks, Apart as GivesNothing}
 use Rattle.relation_proving.specs.Candidates.{MayAsk, IsFirstOrderClause, MayTry, TellsCandidate, AsksFor}
 use Rattle.relation_proving.specs.RuleTerms.{MayUse}
 use Rattle.relation_proving.specs.Telling.{GoesOn, IsExact, goal_tree}
-use Rattle.relation_proving.proofs.GoingOn.{asks_on, exact_on, goal_stays, goals_first_order}
+use Rattle.relation_proving.proofs.GoingOn.{asks_on, exact_on, goals_first_order}
 use Rattle.relation_impls.specs.declared.answer.WhyApart.TheVariants.{ByForm, ByBound}
 use Rattle.relation_impls.specs.declared.answer.Impls.{Impls}
 use Rattle.relation_impls.specs.declared.answer.Impls.TheVariants.{Apart, Meet, Unclear}
 use Rattle.relation_impls.specs.Telling.{FitsBy, AllFollow, TellsBounds, MayMeet, MeetsOpened, TellsOpened}
-use Rattle.relation_impls.proofs.Following.{all_first, all_behind, clauses_follow, follow_as_list}
+use Rattle.relation_impls.proofs.Following.{all_first, all_behind, clauses_follow, follow_as_list, all_follow_on, all_followed}
 
 module _ {Key Id Name : Type 0} (c d e : Context Key Id Name) (env : ParamEnvKey Key)
     (ks : List (Binder Key (ClausesKey Key))) (left : Binder Key (ClausesKey Key)) (given : ClauseKey Key)
@@ -65,17 +64,6 @@ module _ {Key Id Name : Type 0} (c d e : Context Key Id Name) (env : ParamEnvKey
     all_first_order = All-append (λ g. IsFirstOrderClause (goal_tree d g)) bounds asks t.asks_first_order
         (goals_first_order c d on asks asked m.asks_first_order)
 
-    -- What follows under a solution follows under one that agrees with it, then; and what follows then did.
-    follows_on : (s s' : Assign) → AgreeErased c.store s s' → (g : ClauseKey Key) → MayAsk c g →
-        Follows u [] rs (one (apply s (goal_tree c g))) → Follows u [] rs (one (apply s' (goal_tree d g)))
-    follows_on s s' agree g ask f = follows_one u [] rs (apply s' (goal_tree d g))
-        (subst (λ z. erase (apply s (goal_tree c g)) ≡ erase (apply s' z)) (sym (goal_stays c d on g ask))
-        (same_erased c.store s s' (goal_tree c g) agree (term_context c.store (goal_tree c g) ask.is_in))) f
-
-    followed : (s : Assign) (g : ClauseKey Key) → MayAsk c g → Follows u [] rs (one (apply s (goal_tree d g))) →
-        Follows u [] rs (one (apply s (goal_tree c g)))
-    followed s g ask f = subst (λ z. Follows u [] rs (one (apply s z))) (goal_stays c d on g ask) f
-
     -- A solution with values for the rule goes on, and under it all bounds follow.
     goes_on : (s : Assign) (xs : List Tree) → IsErasedSolution c.store s →
         MeetsOpened c given asks u rs a s xs →
@@ -93,7 +81,7 @@ module _ {Key Id Name : Type 0} (c d e : Context Key Id Name) (env : ParamEnvKey
               (clauses_follow u rs d k.after bounds
               (subst (λ z. Follows u [] rs (all (map (apply k.after) z))) (sym t.asks_are)
               (follows_all u [] rs (map (apply k.after) (map (inst t.vars 0) a.asks)) alike f.left_follows)))
-              (λ i x l. follows_on s k.after agree _ (asked i x l) (f.right_follows i x l)),
+              (all_follow_on u rs c d on s k.after agree asks asked f.right_follows),
         )
 
     -- A solution after, under which all follow, makes the two meet.
@@ -116,8 +104,8 @@ module _ {Key Id Name : Type 0} (c d e : Context Key Id Name) (env : ParamEnvKey
                   (ap (map (apply s)) t.asks_are ∙ opened_values s t.vars xs a.asks o.asks_closed refl)
                   (follow_as_list u rs d s bounds
                   (all_first (λ g. Follows u [] rs (one (apply s (goal_tree d g)))) bounds asks f));
-              right_follows = λ i x l. followed s _ (asked i x l)
-                  (all_behind (λ g. Follows u [] rs (one (apply s (goal_tree d g)))) bounds asks f i x l);
+              right_follows = all_followed u rs c d on s asks asked
+                  (all_behind (λ g. Follows u [] rs (one (apply s (goal_tree d g)))) bounds asks f);
             },
           ),
         )

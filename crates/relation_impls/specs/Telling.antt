@@ -4,6 +4,7 @@
 --   FitsBy u a g s xs           values for a rule make what it gives one with a goal
 --   MayMeet ..                  rules, an impl, and what an opened one gives and asks for are first-order
 --   MeetsOpened ..              values for the impl make what it gives one with that, and all that both ask for follows
+--   GoesOnWith c d gs u rs      what is recorded goes on where all of these clauses follow
 --   TellsBounds c d ks gs x     what is told of bounds that were asked
 --   TellsOpened c d ks k g gs x   what is told of an impl and one that was opened
 use Rattle.std.specs.Prelude.{◌≡◌, ℕ, List, [], All, map}
@@ -15,9 +16,9 @@ use Rattle.relation_terms.specs.Erasure.{erase}
 use Rattle.relation_semantics.specs.Contexts.{Context}
 use Rattle.relation_semantics.specs.FirstOrder.{IsErasedSolution}
 use Rattle.relation_semantics.specs.Relation.{FitKinds}
-use Rattle.relation_semantics.specs.Steps.{AllNamable}
+use Rattle.relation_semantics.specs.Steps.{AllNamable, HasErasedExtension}
 use Rattle.relation_solver.specs.Rules.{Rule, one, all, Follows}
-use Rattle.relation_proving.specs.Candidates.{IsFirstOrderClause, IsFirstOrderRule}
+use Rattle.relation_proving.specs.Candidates.{IsFirstOrderAt, IsFirstOrderClause, IsFirstOrderRule}
 use Rattle.relation_proving.specs.Telling.{IsExact, goal_tree}
 use Rattle.relation_impls.specs.declared.answer.WhyApart.TheVariants.{ByForm, ByBound}
 use Rattle.relation_impls.specs.declared.answer.Impls.{Impls}
@@ -49,8 +50,16 @@ module _ {Key Id Name : Type 0} where
       pub left_follows : Follows u [] rs (all (map (inst xs 0) a.asks))
       pub right_follows : AllFollow c u rs asks s
 
+  -- What is recorded is first-order still; each solution under which all of these clauses follow goes on; and each that
+  -- is left was one.
+  pub record GoesOnWith (c d : Context Key Id Name) (gs : List (ClauseKey Key)) (u : ℕ) (rs : List Rule) : Type 0 where
+    pub store : IsFirstOrderAt u d.store
+    pub keeps : (s : Assign) → IsErasedSolution c.store s → AllFollow c u rs gs s →
+        HasErasedExtension c.store s (IsErasedSolution d.store)
+    pub shrinks : (s : Assign) → IsErasedSolution d.store s → IsErasedSolution c.store s
+
   module _ (c d : Context Key Id Name) (ks : List (Binder Key (ClausesKey Key))) where
-    -- Of bounds that were asked: under no solution all follow; or under each that is left all do.
+    -- Of bounds that were asked: under no solution all follow; or under each that is left all do; or it goes on.
     module _ (gs : List (ClauseKey Key)) where
       abbrev WhereExact : (ℕ → List Rule → Type 0) → Type 0
       WhereExact P = (u : ℕ) (rs : List Rule) → IsExact u c ks rs → All (λ g. IsFirstOrderClause (goal_tree c g)) gs →
@@ -62,7 +71,7 @@ module _ {Key Id Name : Type 0} where
           AllFollow c u rs gs s → ⊥)
       TellsBounds Meet = WhereExact (λ u rs. (s : Assign) → IsErasedSolution d.store s →
           IsErasedSolution c.store s × AllFollow c u rs gs s)
-      TellsBounds (Unclear why) = Unit {0}
+      TellsBounds (Unclear why) = WhereExact (GoesOnWith c d gs)
 
     -- Of an impl and an opened one: under no solution they fit, or meet; or under each that is left they meet.
     module _ (left : Binder Key (ClausesKey Key)) (given : ClauseKey Key) (asks : List (ClauseKey Key)) where

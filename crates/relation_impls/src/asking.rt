@@ -11,9 +11,30 @@ use relation_proving::opening::RuleOf;
 use relation_proving::proving::{Told, prove};
 use relation_terms::terms::{Clause, ParamEnv, Span};
 
-/// Whether all of a list follow, asked one after another, each by what is recorded once those before it were proved. One
-/// of which it isn't told is passed over. What is recorded then is left.
+/// Whether all of a list follow, each by what is recorded once others were proved. Those of which it isn't told are asked
+/// again behind the others, with these. What is recorded then is left.
 pub(crate) fn bounds_hold<C: KeepsRecord>(
+    ctx: &mut C,
+    rules: &[RuleOf<C::Interner>],
+    param_env: ParamEnv<C::Interner>,
+    bounds: &[Clause<C::Interner>],
+    depth: usize,
+    span: Span<C::Interner>,
+) -> RelateResult<C::Interner, Impls>
+    requires may { MayProve (C.state ctx.old) rules.now param_env }
+    requires bounds { All (MayAsk (C.state ctx.old)) bounds.now }
+    ensures goes_on { GoesOn (C.state ctx.old) (C.state ctx.new) }
+    ensures tells { IfOk result (TellsBounds (C.state ctx.old) (C.state ctx.new) rules.now bounds.now) }
+{
+    match each_holds(ctx, rules, param_env, bounds, depth, span)? {
+        Impls::Unclear(_) => each_holds(ctx, rules, param_env, bounds, depth, span),
+        Impls::Meet => Ok(Impls::Meet),
+        Impls::Apart(why) => Ok(Impls::Apart(why)),
+    }
+}
+
+// The same of a list that is asked once, one after another. One of which it isn't told is passed over.
+fn each_holds<C: KeepsRecord>(
     ctx: &mut C,
     rules: &[RuleOf<C::Interner>],
     param_env: ParamEnv<C::Interner>,

@@ -22,9 +22,9 @@ use relation_terms::terms::{Clause, ParamEnv, Span};
 /// `overlapping_impls` asks, by rules that are all that there are.
 ///
 /// Both are opened with variables, what they give is related, and what the left one asks for, and then the right one, is
-/// proved, each by what those before it recorded. It is `Apart` where what they give doesn't relate, or one of the bounds
-/// doesn't follow; `Meet` where all do; and `Unclear` where one of which that isn't told is left and none fails. After
-/// each of these what is recorded is what was.
+/// proved, each by what those before it recorded, and all again if one was left of which that isn't told. It is `Apart`
+/// where what they give doesn't relate, or one of the bounds doesn't follow; `Meet` where all do; and `Unclear` where one
+/// is left and none fails. After each of these what is recorded is what was.
 ///
 /// The interner has to know the environment, the rules and both impls, whose binders bind by their lists; their variables
 /// and placeholders are the context's. Where the rules, both impls and what is recorded are first-order, `Apart` says

@@ -1,79 +1,30 @@
--- One bound after another.
-use Rattle.std.proofs.Common.{◌≡◌, ◌≤◌, arith, sym, subst, ap, length}
-use Rattle.std.specs.Prelude.{Ok}
-use Rattle.relation_proving.specs.Answers.{YesMakesFollow, YesLosesNone, YesStaysFirstOrder, NoFollowsNever, LeavesNothing}
-use Rattle.relation_proving.specs.Candidates.{MayAsk}
+-- What isn't told is asked again.
+use Rattle.std.proofs.Common.{All, subst}
 use Rattle.relation_proving.specs.Telling.{GoesOn}
 use Rattle.relation_proving.proofs.GoingOn.{goes_through, proves_on, asks_on}
-use Rattle.relation_impls.proofs.Bounds.{AskedSoFar, asking_begins, asking_goes_on, asking_fails, asking_passes, asking_ended}
+use Rattle.relation_impls.specs.Telling.{TellsBounds}
+use Rattle.relation_impls.proofs.Bounds.{asked_again_result}
 use Rattle.relation_impls.proofs.asking.bounds_hold.Goals as goal
 
-pub loop-place-init : goal.loop-place-init
-loop-place-init g c = asking_begins (g.C.InferCtxtLike.state c.args.ctx.now) c.args.rules.now c.args.bounds.now
-    c.requires.may.lawful
-
-pub prove-requires : goal.prove-requires
-prove-requires g c =
+pub each_holds-requires-2 : goal.each_holds-requires-2
+each_holds-requires-2 g c =
     let s = g.C.InferCtxtLike.state c.args.ctx.now in
-    let d = g.C.InferCtxtLike.state c.loop-place.ctx in
-    let on = c.loop-place.invariant.goes_on in
+    let d = g.C.InferCtxtLike.state c.each_holds.new.ctx in
+    let on = c.in_ok-each_holds.ensures.goes_on in
     record {
       may = proves_on s d on c.args.rules.now c.args.param_env c.requires.may;
-      goal = subst (MayAsk d) (sym c.index-bounds-place.is) (asks_on s d on c.args.bounds.now c.requires.bounds
-          c.loop-place.place c.index-bounds-place.result c.loop-place-test.true);
+      bounds = asks_on s d on c.args.bounds.now c.requires.bounds;
     }
 
-pub returns-in_err-prove-clause-goes_on : goal.returns-in_err-prove-clause-goes_on
-returns-in_err-prove-clause-goes_on g c =
-    let state = g.C.InferCtxtLike.state in
-    let p = c.in_err-prove.ensures in
-    goes_through (state c.args.ctx.now) (state c.loop-place.ctx) (state c.prove.new.ctx) c.loop-place.invariant.goes_on
-    (record { later = p.later; lawful = p.lawful; grown = p.grown })
-
-pub loop-place-preserved-in-Yes : goal.loop-place-preserved-in-Yes
-loop-place-preserved-in-Yes g c =
-    let state = g.C.InferCtxtLike.state in
-    let p = c.in_ok-prove.ensures in
-    asking_goes_on (state c.args.ctx.now) c.args.rules.now c.args.bounds.now c.requires.may.rules c.requires.bounds
-    (state c.loop-place.ctx) (state c.prove.new.ctx) c.loop-place.place c.loop-place.told c.loop-place.invariant
-    c.loop-place-test.true c.index-bounds-place.result c.index-bounds-place.is
-    (record { later = p.later; lawful = p.lawful; grown = p.grown }) _ (ap Ok c.in-Yes.is) p.sound p.principal
-    p.first_order
-
-pub loop-place-preserved-in-Maybe : goal.loop-place-preserved-in-Maybe
-loop-place-preserved-in-Maybe g c =
-    let state = g.C.InferCtxtLike.state in
-    let p = c.in_ok-prove.ensures in
-    asking_passes (state c.args.ctx.now) c.args.rules.now c.args.bounds.now c.requires.may.rules c.requires.bounds
-    (state c.loop-place.ctx) (state c.prove.new.ctx) c.loop-place.place c.loop-place.told c.loop-place.invariant
-    c.loop-place-test.true c.index-bounds-place.result c.index-bounds-place.is
-    (record { later = p.later; lawful = p.lawful; grown = p.grown })
-    (subst (λ told. LeavesNothing (state c.loop-place.ctx) (state c.prove.new.ctx) c.args.rules.now
-    c.index-bounds-place.result (Ok told)) c.in-Maybe.is p.back) c.in-Maybe.why
-
-pub returns-in-No : goal.returns-in-No
-returns-in-No g c =
-    let state = g.C.InferCtxtLike.state in
-    let p = c.in_ok-prove.ensures in
-    let on : GoesOn (state c.loop-place.ctx) (state c.prove.new.ctx) =
-    record { later = p.later; lawful = p.lawful; grown = p.grown } in
-    record {
-      goes_on = goes_through (state c.args.ctx.now) (state c.loop-place.ctx) (state c.prove.new.ctx)
-          c.loop-place.invariant.goes_on on;
-      tells = asking_fails (state c.args.ctx.now) c.args.rules.now c.args.bounds.now c.requires.may.rules
-          c.requires.bounds (state c.loop-place.ctx) (state c.prove.new.ctx) c.loop-place.place c.loop-place.told
-          c.loop-place.invariant c.loop-place-test.true c.index-bounds-place.result c.index-bounds-place.is on _
-          (ap Ok c.in-No.is) p.none;
-    }
-
-pub returns : goal.returns
-returns g c =
+pub returns-in-Unclear : goal.returns-in-Unclear
+returns-in-Unclear g c =
     let s = g.C.InferCtxtLike.state c.args.ctx.now in
-    let d = g.C.InferCtxtLike.state c.loop-place.ctx in
-    let past = c.loop-place-test.false in
-    let ends : length c.args.bounds.now ≤ c.loop-place.place = omega (arith, past) in
+    let d = g.C.InferCtxtLike.state c.each_holds.new.ctx in
+    let e = g.C.InferCtxtLike.state c.each_holds-2.new.ctx in
+    let on = c.in_ok-each_holds.ensures.goes_on in
     record {
-      goes_on = c.loop-place.invariant.goes_on;
-      tells = asking_ended s c.args.rules.now c.args.bounds.now d c.loop-place.place ends c.loop-place.told
-          c.loop-place.invariant;
+      goes_on = goes_through s d e on c.each_holds-2.ensures.goes_on;
+      tells = asked_again_result s c.args.rules.now c.args.bounds.now c.requires.may.rules c.requires.bounds d e on _
+          (subst (TellsBounds s d c.args.rules.now c.args.bounds.now) c.in-Unclear.is c.in_ok-each_holds.ensures.tells)
+          c.each_holds-2.result c.each_holds-2.ensures.tells;
     }
