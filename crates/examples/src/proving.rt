@@ -88,7 +88,11 @@ pub(crate) fn make_vec<I: Interner>(cx: &mut I, vec: I::Id, ty: Ty<I>) -> Result
 }
 
 // The clause that a type is of the trait.
-pub(crate) fn make_ranked<I: Interner>(cx: &mut I, ranked: I::Id, ty: Ty<I>) -> Result<Clause<I>, OutOfMemory>
+pub(crate) fn make_ranked<I: Interner>(
+    cx: &mut I,
+    ranked: I::Id,
+    ty: Ty<I>,
+) -> Result<Clause<I>, OutOfMemory>
     requires { IsTrue (known ((I.meaning cx.old).ty ty)) }
     ensures grown { Extends (I.meaning cx.old) (I.meaning cx.new) }
     ensures sure { IfOk result (λ k. IsTrue (known ((I.meaning cx.new).clause k))) }
@@ -151,7 +155,10 @@ pub(crate) fn make_impl<I: Interner>(
 }
 
 // A clause of an environment as a rule.
-pub(crate) fn make_given<I: Interner>(cx: &mut I, clause: Clause<I>) -> Result<RuleOf<I>, OutOfMemory>
+pub(crate) fn make_given<I: Interner>(
+    cx: &mut I,
+    clause: Clause<I>,
+) -> Result<RuleOf<I>, OutOfMemory>
     requires { IsTrue (known ((I.meaning cx.old).clause clause)) }
     ensures grown { Extends (I.meaning cx.old) (I.meaning cx.new) }
     ensures is { let m = I.meaning cx.old in
@@ -174,7 +181,11 @@ pub(crate) enum Inner {
 }
 
 // That type.
-pub(crate) fn make_inner<I: Interner>(cx: &mut I, name: I::Name, inner: Inner) -> Result<Ty<I>, OutOfMemory>
+pub(crate) fn make_inner<I: Interner>(
+    cx: &mut I,
+    name: I::Name,
+    inner: Inner,
+) -> Result<Ty<I>, OutOfMemory>
     ensures grown { Extends (I.meaning cx.old) (I.meaning cx.new) }
     ensures sure { IfOk result (λ k. IsTrue (known ((I.meaning cx.new).ty k))) }
 {
