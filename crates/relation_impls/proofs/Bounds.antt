@@ -18,6 +18,7 @@ use Rattle.relation_proving.specs.Candidates.{MayAsk, IsFirstOrderAt, IsFirstOrd
 use Rattle.relation_proving.specs.RuleTerms.{MayUse}
 use Rattle.relation_proving.specs.Telling.{GoesOn, IsExact, goal_tree}
 use Rattle.relation_proving.specs.declared.told.Why.{Why}
+use Rattle.relation_proving.specs.declared.told.Why.TheVariants.{Ambiguous}
 use Rattle.relation_proving.specs.declared.told.Told.{Told}
 use Rattle.relation_proving.specs.declared.told.Told.TheVariants.{Yes, No}
 use Rattle.relation_proving.proofs.GoingOn.{goes_itself, goes_through, exact_on, goal_stays, goals_first_order}
@@ -97,22 +98,22 @@ module _ {Key Id Name : Type 0} (c : Context Key Id Name) (ks : List (Binder Key
         -- One was proved.
         pub asking_goes_on : result ≡ Ok Yes → YesMakesFollow d e ks g result → YesLosesNone d e ks g result →
             YesStaysFirstOrder d e ks g result → AskedSoFar e (n + 1) told
-        asking_goes_on yes sound principal stays = record {
+        asking_goes_on proved sound principal stays = record {
           goes_on = goes_through c d e h.goes_on on;
           none_apart = h.none_apart;
           kept = λ u rs x f.
               let k = h.kept u rs x f in
               let now = exact_then u rs x f in
               let first = first_order_then u rs x f in
-              let before = subst (YesMakesFollow d e ks g) yes sound rs now first in
+              let before = subst (YesMakesFollow d e ks g) proved sound rs now first in
               record {
                 goes = record {
                   store = subst (λ v. IsFirstOrderAt v e.store) (same_universe u rs x f)
-                      (subst (YesStaysFirstOrder d e ks g) yes stays rs now first);
+                      (subst (YesStaysFirstOrder d e ks g) proved stays rs now first);
                   keeps = λ s sol a.
                       let p = (k.goes).keeps s sol a in
                       erased_through c.store d.store s p.0 (IsErasedSolution e.store) ((h.goes_on).later) p.1
-                      (subst (YesLosesNone d e ks g) yes principal rs now first p.0 p.2
+                      (subst (YesLosesNone d e ks g) proved principal rs now first p.0 p.2
                       (follows_then u rs x f s a p.0 p.1));
                   shrinks = λ s sol. (k.goes).shrinks s (before s sol).0;
                 };
@@ -123,9 +124,9 @@ module _ {Key Id Name : Type 0} (c : Context Key Id Name) (ks : List (Binder Key
 
         -- One does not follow.
         pub asking_fails : result ≡ Ok No → NoFollowsNever d e ks g result → TellsBounds c e ks gs (Apart (ByBound n))
-        asking_fails no none = λ u rs x f s sol a.
+        asking_fails fails none = λ u rs x f s sol a.
             let p = ((h.kept u rs x f).goes).keeps s sol a in
-            subst (NoFollowsNever d e ks g) no none rs (exact_then u rs x f) (first_order_then u rs x f) p.0 p.2
+            subst (NoFollowsNever d e ks g) fails none rs (exact_then u rs x f) (first_order_then u rs x f) p.0 p.2
             (follows_then u rs x f s a p.0 p.1)
 
       -- Of one it isn't told.
@@ -157,7 +158,7 @@ module _ {Key Id Name : Type 0} (c : Context Key Id Name) (ks : List (Binder Key
 
   -- All were asked again.
   module _ (uses : All (MayUse c) ks) (asked : All (MayAsk c) gs) (d e : Context Key Id Name) (on : GoesOn c d)
-      (why : Why) (first : TellsBounds c d ks gs (Unclear why)) where
+      (first : TellsBounds c d ks gs (Unclear Ambiguous)) where
     module _ (u : ℕ) (rs : List Rule) (x : IsExact u c ks rs) (f : All (λ g. IsFirstOrderClause (goal_tree c g)) gs) where
       abbrev goes : GoesOnWith c d gs u rs
       goes = first u rs x f

@@ -162,7 +162,7 @@ module _ {Key Id Name : Type 0} (c d e : Context Key Id Name) (ks : List (Binder
     tells_meeting g Meet t = λ rs a b x.
         let s = met e.store g in
         let p = t u rs a (may_meet rs a b x) s.0 s.1 in
-        (p.1.0, (map (apply s.0) (vars rs a b x), meets_by rs a b x s.0 p.1.0 p.0 p.1.1))
+        (p.1.0, map (apply s.0) (vars rs a b x), meets_by rs a b x s.0 p.1.0 p.0 p.1.1)
     tells_meeting g (Unclear why) t = tt
 
     pub tells_apart_result : {F : Type 0} (result : Result Impls F) →

@@ -1,7 +1,7 @@
 -- One bound after another.
-use Rattle.std.proofs.Common.{◌≡◌, ◌≤◌, arith, sym, subst, ap, length}
+use Rattle.std.proofs.Common.{◌≡◌, ◌≤◌, ◌+◌, ◌∙◌, arith, sym, subst, ap, length}
 use Rattle.std.specs.Prelude.{Ok}
-use Rattle.relation_proving.specs.Answers.{YesMakesFollow, YesLosesNone, YesStaysFirstOrder, NoFollowsNever, LeavesNothing}
+use Rattle.relation_proving.specs.Answers.{LeavesNothing}
 use Rattle.relation_proving.specs.Candidates.{MayAsk}
 use Rattle.relation_proving.specs.Telling.{GoesOn}
 use Rattle.relation_proving.proofs.GoingOn.{goes_through, proves_on, asks_on}
@@ -30,31 +30,32 @@ returns-in_err-prove-clause-goes_on g c =
     goes_through (state c.args.ctx.now) (state c.loop-place.ctx) (state c.prove.new.ctx) c.loop-place.invariant.goes_on
     (record { later = p.later; lawful = p.lawful; grown = p.grown })
 
-pub loop-place-preserved-in-Yes : goal.loop-place-preserved-in-Yes
-loop-place-preserved-in-Yes g c =
+pub loop-place-preserved : goal.loop-place-preserved
+loop-place-preserved g c =
     let state = g.C.InferCtxtLike.state in
-    let p = c.in_ok-prove.ensures in
-    asking_goes_on (state c.args.ctx.now) c.args.rules.now c.args.bounds.now c.requires.may.rules c.requires.bounds
-    (state c.loop-place.ctx) (state c.prove.new.ctx) c.loop-place.place c.loop-place.told c.loop-place.invariant
-    c.loop-place-test.true c.index-bounds-place.result c.index-bounds-place.is
-    (record { later = p.later; lawful = p.lawful; grown = p.grown }) _ (ap Ok c.in-Yes.is) p.sound p.principal
-    p.first_order
-
-pub loop-place-preserved-in-Maybe : goal.loop-place-preserved-in-Maybe
-loop-place-preserved-in-Maybe g c =
-    let state = g.C.InferCtxtLike.state in
-    let p = c.in_ok-prove.ensures in
-    asking_passes (state c.args.ctx.now) c.args.rules.now c.args.bounds.now c.requires.may.rules c.requires.bounds
-    (state c.loop-place.ctx) (state c.prove.new.ctx) c.loop-place.place c.loop-place.told c.loop-place.invariant
-    c.loop-place-test.true c.index-bounds-place.result c.index-bounds-place.is
-    (record { later = p.later; lawful = p.lawful; grown = p.grown })
-    (subst (λ told. LeavesNothing (state c.loop-place.ctx) (state c.prove.new.ctx) c.args.rules.now
-    c.index-bounds-place.result (Ok told)) c.in-Maybe.is p.back) c.in-Maybe.why
+    let s = state c.args.ctx.now in
+    let d = state c.loop-place.ctx in
+    let e = state c.prove.new.ctx in
+    let p = c.prove.ensures in
+    let on : GoesOn d e = record { later = p.later; lawful = p.lawful; grown = p.grown } in
+    elim c.match-prove.branch [
+      | in-Yes w ↦ subst (AskedSoFar s c.args.rules.now c.args.bounds.now e (c.loop-place.place + 1)) (sym w.told-is)
+          (asking_goes_on s c.args.rules.now c.args.bounds.now c.requires.may.rules c.requires.bounds d e
+          c.loop-place.place c.loop-place.told c.loop-place.invariant c.loop-place-test.true
+          c.index-bounds-place.result c.index-bounds-place.is on c.prove.result
+          (c.in_ok-prove.was ∙ ap Ok w.in-Yes.is) p.sound p.principal p.first_order)
+      | in-Maybe w ↦ subst (AskedSoFar s c.args.rules.now c.args.bounds.now e (c.loop-place.place + 1)) (sym w.told-is)
+          (asking_passes s c.args.rules.now c.args.bounds.now c.requires.may.rules c.requires.bounds d e
+          c.loop-place.place c.loop-place.told c.loop-place.invariant c.loop-place-test.true
+          c.index-bounds-place.result c.index-bounds-place.is on
+          (subst (LeavesNothing d e c.args.rules.now c.index-bounds-place.result)
+          (c.in_ok-prove.was ∙ ap Ok w.in-Maybe.is) p.back) w.in-Maybe.why)
+    ]
 
 pub returns-in-No : goal.returns-in-No
 returns-in-No g c =
     let state = g.C.InferCtxtLike.state in
-    let p = c.in_ok-prove.ensures in
+    let p = c.prove.ensures in
     let on : GoesOn (state c.loop-place.ctx) (state c.prove.new.ctx) =
     record { later = p.later; lawful = p.lawful; grown = p.grown } in
     record {
@@ -62,8 +63,8 @@ returns-in-No g c =
           c.loop-place.invariant.goes_on on;
       tells = asking_fails (state c.args.ctx.now) c.args.rules.now c.args.bounds.now c.requires.may.rules
           c.requires.bounds (state c.loop-place.ctx) (state c.prove.new.ctx) c.loop-place.place c.loop-place.told
-          c.loop-place.invariant c.loop-place-test.true c.index-bounds-place.result c.index-bounds-place.is on _
-          (ap Ok c.in-No.is) p.none;
+          c.loop-place.invariant c.loop-place-test.true c.index-bounds-place.result c.index-bounds-place.is on
+          c.prove.result (c.in_ok-prove.was ∙ ap Ok c.in-No.is) p.none;
     }
 
 pub returns : goal.returns

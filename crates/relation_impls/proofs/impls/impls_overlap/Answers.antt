@@ -1,10 +1,12 @@
 -- The record is put back.
 use Rattle.kept_records.proofs.Kept.{may_put_back}
 use Rattle.relation_semantics.proofs.Going.{later_itself}
-use Rattle.relation_terms.proofs.Stays.{stays_same}
 use Rattle.relation_proving.proofs.GoingOn.{back_goes}
 use Rattle.relation_proving.proofs.Searches.{put_back_back}
 use Rattle.relation_impls.proofs.impls.impls_overlap.Goals as goal
+
+pub returns-in_err-before-clause-later : goal.returns-in_err-before-clause-later
+returns-in_err-before-clause-later g c = later_itself (g.C.InferCtxtLike.state c.args.ctx.now).store
 
 pub put_back-requires : goal.put_back-requires
 put_back-requires g c = record {

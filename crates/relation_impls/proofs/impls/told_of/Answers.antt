@@ -29,8 +29,8 @@ told_of_opened-requires g c =
       asks = others_may s d c.args.right c.in-Some.given.now c.in_ok-clauses.clauses.items c.in-Some.asks.now is e.opens;
     }
 
-pub returns-in-Some : goal.returns-in-Some
-returns-in-Some g c =
+pub returns : goal.returns
+returns g c =
     let s = g.C.InferCtxtLike.state c.args.ctx.now in
     let d = g.C.InferCtxtLike.state c.open_rule.new.ctx in
     let f = g.C.InferCtxtLike.state c.told_of_opened.new.ctx in
