@@ -6,6 +6,7 @@ use Rattle.relation_proving.specs.Candidates.{MayAsk}
 use Rattle.relation_proving.specs.Telling.{GoesOn}
 use Rattle.relation_proving.proofs.GoingOn.{goes_through, proves_on, asks_on}
 use Rattle.relation_impls.proofs.Bounds.{AskedSoFar, asking_begins, asking_goes_on, asking_fails, asking_passes, asking_ended}
+use Rattle.relation_impls.proofs.asking.each_holds.Goals.{in-Yes, in-Maybe}
 use Rattle.relation_impls.proofs.asking.each_holds.Goals as goal
 
 pub loop-place-init : goal.loop-place-init

@@ -22,7 +22,7 @@ bounds_hold-requires g c =
     let on : GoesOn s d = record { later = e.later; lawful = e.lawful; grown = e.grown } in
     record {
       may = proves_on s d on c.args.rules.now c.args.param_env c.requires.may;
-      bounds = bounds_may s d c.args.param_env c.args.rules.now c.args.left c.args.given.now c.args.asks.now
+      bounds = bounds_may s d d c.args.param_env c.args.rules.now c.args.left c.args.given.now c.args.asks.now
           c.requires.may.rules c.requires.given c.requires.asks on c.in-Asks.others
           (subst (TellsCandidate s c.args.param_env c.args.left c.args.given.now d) c.in-Asks.is e.tells)
           c.deref.result.now (c.deref.ensures.value ∙ c.in_ok-extend_from_slice-in-Asks.ensures.items);
