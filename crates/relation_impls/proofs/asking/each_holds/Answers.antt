@@ -39,7 +39,7 @@ loop-place-preserved g c =
     let e = state c.prove.new.ctx in
     let p = c.prove.ensures in
     let on : GoesOn d e = record { later = p.later; lawful = p.lawful; grown = p.grown } in
-    elim c.match-prove.branch [
+    elim c.match-branch-2.branch [
       | in-Yes w ↦ subst (AskedSoFar s c.args.rules.now c.args.bounds.now e (c.loop-place.place + 1)) (sym w.told-is)
           (asking_goes_on s c.args.rules.now c.args.bounds.now c.requires.may.rules c.requires.bounds d e
           c.loop-place.place c.loop-place.told c.loop-place.invariant c.loop-place-test.true
