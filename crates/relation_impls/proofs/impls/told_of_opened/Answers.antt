@@ -25,7 +25,8 @@ bounds_hold-requires g c =
       bounds = bounds_may s d d c.args.param_env c.args.rules.now c.args.left c.args.given.now c.args.asks.now
           c.requires.may.rules c.requires.given c.requires.asks on c.in-Asks.others
           (subst (TellsCandidate s c.args.param_env c.args.left c.args.given.now d) c.in-Asks.is e.tells)
-          c.deref.result.now (c.deref.ensures.value ∙ c.in_ok-extend_from_slice-in-Asks.ensures.items);
+          c.deref.result.now (◌∙◌ {c = c.in-Asks.others.items ++ c.args.asks.now} c.deref.ensures.value
+          c.in_ok-extend_from_slice-in-Asks.ensures.items);
     }
 
 pub returns-in_ok-extend_from_slice-in-Asks : goal.returns-in_ok-extend_from_slice-in-Asks
@@ -40,7 +41,8 @@ returns-in_ok-extend_from_slice-in-Asks g c =
       tells = by_bounds_result s d f c.args.param_env c.args.rules.now c.args.left c.args.given.now c.args.asks.now
           c.requires.may.rules c.requires.given c.requires.asks on c.in-Asks.others
           (subst (TellsCandidate s c.args.param_env c.args.left c.args.given.now d) c.in-Asks.is e.tells)
-          c.deref.result.now (c.deref.ensures.value ∙ c.in_ok-extend_from_slice-in-Asks.ensures.items)
+          c.deref.result.now (◌∙◌ {c = c.in-Asks.others.items ++ c.args.asks.now} c.deref.ensures.value
+          c.in_ok-extend_from_slice-in-Asks.ensures.items)
           c.bounds_hold.result c.bounds_hold.ensures.tells;
     }
 
