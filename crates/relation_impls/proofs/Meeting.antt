@@ -1,5 +1,5 @@
 -- An impl and one that was opened, by what is told of the bounds of both.
-use Rattle.std.proofs.Common.{◌≡◌, ℕ, List, [], ◌∷◌, ◌++◌, refl, sym, ◌∙◌, ap, subst, map, All}
+use Rattle.std.proofs.Common.{◌≡◌, ℕ, List, [], ◌++◌, refl, sym, ◌∙◌, ap, subst, map, All}
 use Rattle.std.specs.Prelude.{IfOk, Result, Ok, Err}
 use Rattle.std.specs.Global.{Vec}
 use Rattle.std.proofs.lemmas.List.Elements.{All-nil, All-append}
@@ -20,7 +20,6 @@ use Rattle.relation_solver.specs.Rules.{Rule, one, all, Follows}
 use Rattle.relation_solver.proofs.Opened.{opened_value, opened_values, variables_namable, before_making}
 use Rattle.relation_solver.proofs.Opened.{opened_are_unconstrained}
 use Rattle.relation_solver.proofs.Solving.{follows_all, fitted, fitted_agrees, asks_alike}
-use Rattle.relation_proving.specs.declared.candidate.Candidate.{Candidate}
 use Rattle.relation_proving.specs.declared.candidate.Candidate.TheVariants.{Asks, Apart as GivesNothing}
 use Rattle.relation_proving.specs.Candidates.{MayAsk, IsFirstOrderClause, MayTry, TellsCandidate, AsksFor}
 use Rattle.relation_proving.specs.RuleTerms.{MayUse}
@@ -29,7 +28,7 @@ use Rattle.relation_proving.proofs.GoingOn.{asks_on, exact_on, goals_first_order
 use Rattle.relation_impls.specs.declared.answer.WhyApart.TheVariants.{ByForm, ByBound}
 use Rattle.relation_impls.specs.declared.answer.Impls.{Impls}
 use Rattle.relation_impls.specs.declared.answer.Impls.TheVariants.{Apart, Meet, Unclear}
-use Rattle.relation_impls.specs.Telling.{FitsBy, AllFollow, TellsBounds, MayMeet, MeetsOpened, TellsOpened}
+use Rattle.relation_impls.specs.Telling.{AllFollow, TellsBounds, MayMeet, MeetsOpened, TellsOpened}
 use Rattle.relation_impls.proofs.Following.{all_first, all_behind, clauses_follow, follow_as_list, all_follow_on, all_followed}
 
 module _ {Key Id Name : Type 0} (c d e : Context Key Id Name) (env : ParamEnvKey Key)

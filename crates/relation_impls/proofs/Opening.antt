@@ -15,7 +15,7 @@ use Rattle.relation_semantics.proofs.StoreCalls.{bindings_are_met}
 use Rattle.relation_semantics.proofs.Values.{variables_fit}
 use Rattle.relation_solver.specs.Rules.{Rule, all, Follows}
 use Rattle.relation_solver.specs.Traces.{Opens}
-use Rattle.relation_solver.proofs.Opened.{opened_value, opened_values, variables_namable, before_making}
+use Rattle.relation_solver.proofs.Opened.{opened_value, opened_values, variables_namable}
 use Rattle.relation_solver.proofs.Opened.{opened_are_unconstrained}
 use Rattle.relation_proving.specs.Candidates.{MayAsk, IsFirstOrderAt, IsFirstOrderClause}
 use Rattle.relation_proving.specs.RuleTerms.{MayUse, OpensRule}
@@ -27,7 +27,7 @@ use Rattle.relation_impls.specs.declared.answer.Impls.{Impls}
 use Rattle.relation_impls.specs.declared.answer.Impls.TheVariants.{Apart, Meet, Unclear}
 use Rattle.relation_impls.specs.Overlaps.{GiveOne, MeetBy}
 use Rattle.relation_impls.specs.Answers.{AreExact, TellsApart, TellsMeeting}
-use Rattle.relation_impls.specs.Telling.{FitsBy, AllFollow, MayMeet, MeetsOpened, TellsOpened}
+use Rattle.relation_impls.specs.Telling.{FitsBy, MayMeet, MeetsOpened, TellsOpened}
 use Rattle.relation_impls.proofs.Following.{clauses_follow, follow_as_list}
 
 list_first : {X : Type 0} {x y : X} {xs ys : List X} → x ∷ xs ≡ y ∷ ys → x ≡ y

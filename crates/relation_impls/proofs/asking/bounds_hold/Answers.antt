@@ -1,6 +1,5 @@
 -- What isn't told is asked again.
-use Rattle.std.proofs.Common.{All, subst}
-use Rattle.relation_proving.specs.Telling.{GoesOn}
+use Rattle.std.proofs.Common.{subst}
 use Rattle.relation_proving.proofs.GoingOn.{goes_through, proves_on, asks_on}
 use Rattle.relation_impls.specs.Telling.{TellsBounds}
 use Rattle.relation_impls.proofs.Bounds.{asked_again_result}

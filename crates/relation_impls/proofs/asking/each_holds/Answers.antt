@@ -1,5 +1,5 @@
 -- One bound after another.
-use Rattle.std.proofs.Common.{◌≡◌, ◌≤◌, ◌+◌, ◌∙◌, arith, sym, subst, ap, length}
+use Rattle.std.proofs.Common.{◌≤◌, ◌+◌, ◌∙◌, arith, sym, subst, ap, length}
 use Rattle.std.specs.Prelude.{Ok}
 use Rattle.relation_proving.specs.Answers.{LeavesNothing}
 use Rattle.relation_proving.specs.Candidates.{MayAsk}

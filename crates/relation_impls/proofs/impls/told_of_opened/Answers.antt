@@ -1,5 +1,5 @@
 -- What both give is related, and their bounds are asked.
-use Rattle.std.proofs.Common.{◌≡◌, ◌∙◌, ◌++◌, sym, subst, ap}
+use Rattle.std.proofs.Common.{◌∙◌, ◌++◌, subst}
 use Rattle.relation_proving.specs.Candidates.{TellsCandidate}
 use Rattle.relation_proving.specs.Telling.{GoesOn}
 use Rattle.relation_proving.proofs.GoingOn.{goes_through, proves_on}
