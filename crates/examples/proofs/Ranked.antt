@@ -1,6 +1,6 @@
 -- The rules and goals of the example of a solver, as they are made; and that they are first-order.
-use Rattle.std.proofs.Common.{◌≡◌, ℕ, refl, sym, ap, ap₂, ◌∙◌, subst, List, [], ◌∷◌, map, All, Some, None, IsSome, IsTrue}
-use Rattle.std.specs.Prelude.{IfOk, Result, Ok, Err}
+use Rattle.std.proofs.Common.{◌≡◌, ℕ, refl, sym, ap, ap₂, ◌∙◌, subst, List, [], ◌∷◌, map, All, Some, None, IsSome, IsTrue, arith}
+use Rattle.std.specs.Prelude.{Contains, IfOk, Result, Ok, Err}
 use Rattle.std.specs.Cmp.Derive.{both_true}
 use Rattle.std.proofs.lemmas.List.Elements.{All-nil, All-cons}
 use Rattle.term_enums.specs.declared.PredicatePolarity.TheVariants.{Positive}
@@ -188,3 +188,19 @@ impl_first_order c k v d n is = record {
   };
   clauses = impl_clauses v d n;
 }
+
+-- The same of three; and the first two are of the three.
+pub three_known : {Key Id Name : Type 0} (m n : Meaning Key Id Name) → Extends m n →
+    (first second third : Binder Key (ClausesKey Key)) (rs : List (Binder Key (ClausesKey Key))) →
+    rs ≡ first ∷ second ∷ third ∷ [] → IsTrue (known (rule_tree m first)) → IsTrue (known (rule_tree m second)) →
+    IsTrue (known (rule_tree m third)) → All (λ r. IsTrue (known (rule_tree n r))) rs
+three_known {Key} m n e first second third rs three f s t =
+    let here = λ (r : Binder Key (ClausesKey Key)). IsTrue (known (rule_tree n r)) in
+    subst (All here) (sym three) (All-cons here first (second ∷ third ∷ []) (knows_rule e first f)
+    (both_known m n e second third (second ∷ third ∷ []) refl s t))
+
+pub first_of_three : {X : Type 0} (x y z : X) (xs : List X) → xs ≡ x ∷ y ∷ z ∷ [] → Contains xs x
+first_of_three x y z xs three = subst (λ l. Contains l x) (sym three) (0, omega arith, refl)
+
+pub second_of_three : {X : Type 0} (x y z : X) (xs : List X) → xs ≡ x ∷ y ∷ z ∷ [] → Contains xs y
+second_of_three x y z xs three = subst (λ l. Contains l y) (sym three) (1, omega arith, refl)

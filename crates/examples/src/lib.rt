@@ -1,9 +1,12 @@
 //! The smallest of each that a user of these crates may copy: a visitor, a folder, an obligation, a table of methods, an
-//! overlap of impls, a question of subtyping, one to a solver. All is proved with the tests, and so once.
+//! overlap of impls, by their headers and with their bounds, a question of subtyping, one to a solver. All is proved with
+//! the tests, and so once.
 #![tactic(auto)]
 
 #[cfg(test)]
 mod all;
+#[cfg(test)]
+pub mod beside;
 #[cfg(test)]
 pub mod folder;
 #[cfg(test)]

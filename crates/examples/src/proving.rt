@@ -92,7 +92,7 @@ fn two<T: Copy>(alloc: Global, first: T, second: T) -> Result<Vec<T>, OutOfMemor
 }
 
 // The type of vectors over another type.
-fn make_vec<I: Interner>(cx: &mut I, vec: I::Id, ty: Ty<I>) -> Result<Ty<I>, OutOfMemory>
+pub(crate) fn make_vec<I: Interner>(cx: &mut I, vec: I::Id, ty: Ty<I>) -> Result<Ty<I>, OutOfMemory>
     requires { IsTrue (known ((I.meaning cx.old).ty ty)) }
     ensures grown { Extends (I.meaning cx.old) (I.meaning cx.new) }
     ensures sure { IfOk result (λ k. IsTrue (known ((I.meaning cx.new).ty k))) }
@@ -106,7 +106,11 @@ fn make_vec<I: Interner>(cx: &mut I, vec: I::Id, ty: Ty<I>) -> Result<Ty<I>, Out
 }
 
 // The clause that a type is of the trait.
-fn make_ranked<I: Interner>(cx: &mut I, ranked: I::Id, ty: Ty<I>) -> Result<Clause<I>, OutOfMemory>
+pub(crate) fn make_ranked<I: Interner>(
+    cx: &mut I,
+    ranked: I::Id,
+    ty: Ty<I>,
+) -> Result<Clause<I>, OutOfMemory>
     requires { IsTrue (known ((I.meaning cx.old).ty ty)) }
     ensures grown { Extends (I.meaning cx.old) (I.meaning cx.new) }
     ensures sure { IfOk result (λ k. IsTrue (known ((I.meaning cx.new).clause k))) }
@@ -147,7 +151,7 @@ fn make_rule<I: Interner>(
 }
 
 // `impl<T> Ranked for Vec<T> where T: Ranked`.
-fn make_impl<I: Interner>(
+pub(crate) fn make_impl<I: Interner>(
     cx: &mut I,
     vec: I::Id,
     ranked: I::Id,
@@ -169,7 +173,10 @@ fn make_impl<I: Interner>(
 }
 
 // A clause of an environment as a rule.
-fn make_given<I: Interner>(cx: &mut I, clause: Clause<I>) -> Result<RuleOf<I>, OutOfMemory>
+pub(crate) fn make_given<I: Interner>(
+    cx: &mut I,
+    clause: Clause<I>,
+) -> Result<RuleOf<I>, OutOfMemory>
     requires { IsTrue (known ((I.meaning cx.old).clause clause)) }
     ensures grown { Extends (I.meaning cx.old) (I.meaning cx.new) }
     ensures is { let m = I.meaning cx.old in
@@ -183,7 +190,7 @@ fn make_given<I: Interner>(cx: &mut I, clause: Clause<I>) -> Result<RuleOf<I>, O
 
 /// What a question is of.
 #[derive(Clone, Copy)]
-enum Inner {
+pub(crate) enum Inner {
     /// The type parameter that the environment speaks of.
     Param,
     Byte,
@@ -192,7 +199,11 @@ enum Inner {
 }
 
 // That type.
-fn make_inner<I: Interner>(cx: &mut I, name: I::Name, inner: Inner) -> Result<Ty<I>, OutOfMemory>
+pub(crate) fn make_inner<I: Interner>(
+    cx: &mut I,
+    name: I::Name,
+    inner: Inner,
+) -> Result<Ty<I>, OutOfMemory>
     ensures grown { Extends (I.meaning cx.old) (I.meaning cx.new) }
     ensures sure { IfOk result (λ k. IsTrue (known ((I.meaning cx.new).ty k))) }
 {
@@ -204,7 +215,7 @@ fn make_inner<I: Interner>(cx: &mut I, name: I::Name, inner: Inner) -> Result<Ty
 }
 
 // The environment's clause that such a type is of the trait, as a rule.
-fn make_had<I: Interner>(
+pub(crate) fn make_had<I: Interner>(
     cx: &mut I,
     ranked: I::Id,
     name: I::Name,
@@ -242,9 +253,9 @@ fn told_by<I: Interner + Drop>(
 
 /// The items of the question.
 #[derive(Clone, Copy)]
-struct Items<D> {
-    vec: D,
-    ranked: D,
+pub(crate) struct Items<D> {
+    pub(crate) vec: D,
+    pub(crate) ranked: D,
 }
 
 // What is told of `Vec<..>: Ranked`, where the environment has it of the type parameter.
@@ -290,7 +301,7 @@ fn add_item(cx: &mut RefInterner, alloc: Global, def: DefKind) -> Result<ItemId,
     cx.add_item(ItemKind { def, params }, SymbolId(1), variances)
 }
 
-fn add_items(cx: &mut RefInterner, alloc: Global) -> Result<Items<ItemId>, OutOfMemory> {
+pub(crate) fn add_items(cx: &mut RefInterner, alloc: Global) -> Result<Items<ItemId>, OutOfMemory> {
     let vec = add_item(cx, alloc, DefKind::Adt)?;
     let ranked = add_item(cx, alloc, DefKind::Trait)?;
     Ok(Items { vec, ranked })

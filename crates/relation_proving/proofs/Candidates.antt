@@ -37,13 +37,13 @@ list_others : {X : Type 0} {x y : X} {xs ys : List X} → x ∷ xs ≡ y ∷ ys 
 list_others e = cc
 
 -- What holds of all images holds of the image of each.
-each_image : {X : Type 0} (f : X → Tree) (P : Tree → Type 0) (xs : List X) → All P (map f xs) → All (λ x. P (f x)) xs
+pub each_image : {X : Type 0} (f : X → Tree) (P : Tree → Type 0) (xs : List X) → All P (map f xs) → All (λ x. P (f x)) xs
 each_image f P [] h = All-nil (λ x. P (f x))
 each_image f P (x ∷ xs) h = All-cons (λ x. P (f x)) x xs (All-head P (f x) (map f xs) h)
     (each_image f P xs (All-tail P (f x) (map f xs) h))
 
 -- New variables are of the kinds that they were made for.
-variables_for : (before after : Store) (u : ℕ) (ks : List BoundKind) (xs : List Tree) →
+pub variables_for : (before after : Store) (u : ℕ) (ks : List BoundKind) (xs : List Tree) →
     AreNewVariables before after u ks xs → AreVariablesFor ks xs
 variables_for before after u [] [] h = tt
 variables_for before after u (k ∷ ks) (x ∷ xs) h =

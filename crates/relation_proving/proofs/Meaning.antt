@@ -14,7 +14,7 @@ use Rattle.relation_semantics.specs.Relation.{IsValueLeaf}
 use Rattle.relation_semantics.proofs.Standing.{term_context}
 use Rattle.relation_solver.specs.Solving.{YesIsSound, YesIsPrincipal, NoMeansNone, ProofsDerive}
 use Rattle.relation_proving.specs.Answers.{YesDerives, YesMakesFollow, YesLosesNone, NoFollowsNever}
-use Rattle.relation_proving.specs.Answers.{LeavesNothing}
+use Rattle.relation_proving.specs.Answers.{YesStaysFirstOrder, LeavesNothing}
 use Rattle.relation_proving.specs.Candidates.{MayAsk}
 use Rattle.relation_proving.specs.Telling.{goal_tree, TellsGoal}
 use Rattle.relation_proving.specs.declared.told.Told.{Told}
@@ -55,6 +55,13 @@ module _ {Key Id Name F : Type 0} (c d : Context Key Id Name) (ks : List (Binder
       (All-nil (Leaves IsValueLeaf)) (term_context c.store (goal_tree c g) a.is_in) (t.1 (c.store).universe rs x f) s h k
   follows_never law a (Ok (Maybe why)) t = tt
   follows_never law a (Err f) t = tt
+
+  pub stays_first_order : (result : Result Told F) → IfOk result (TellsGoal c d ks e g) →
+      YesStaysFirstOrder c d ks g result
+  stays_first_order (Ok Yes) t = λ rs x f. (t.0 (c.store).universe rs x f).store
+  stays_first_order (Ok No) t = tt
+  stays_first_order (Ok (Maybe why)) t = tt
+  stays_first_order (Err f) t = tt
 
   pub leaves_nothing : (result : Result Told F) → IfOk result (TellsGoal c d ks e g) → LeavesNothing c d ks g result
   leaves_nothing (Ok Yes) t = tt

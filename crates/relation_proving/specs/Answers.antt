@@ -6,6 +6,7 @@
 --   YesMakesFollow c d ks g result   after a yes each solution is one before, and makes the goal follow
 --   YesLosesNone c d ks g result     each solution before under which it follows goes on
 --   NoFollowsNever c d ks g result   after a no it follows under none, at no depth
+--   YesStaysFirstOrder c d ks g result   after a yes what is recorded is first-order still
 --   LeavesNothing c d ks g result    where it isn't yes, what is recorded is what was
 use Rattle.std.specs.Prelude.{List, [], Result, Ok, Err}
 use Rattle.std.specs.List.{AllZip}
@@ -23,7 +24,7 @@ use Rattle.relation_semantics.specs.Stores.{Satisfies}
 use Rattle.kept_records.specs.Records.{SameRecord}
 use Rattle.relation_solver.specs.Rules.{Rule, one, Follows, Derives}
 use Rattle.relation_proving.specs.RuleTerms.{IsRuleOf}
-use Rattle.relation_proving.specs.Candidates.{IsFirstOrderClause}
+use Rattle.relation_proving.specs.Candidates.{IsFirstOrderAt, IsFirstOrderClause}
 use Rattle.relation_proving.specs.Telling.{IsExact, goal_tree}
 use Rattle.relation_proving.specs.declared.told.Told.{Told}
 use Rattle.relation_proving.specs.declared.told.Told.TheVariants.{Yes, No, Maybe}
@@ -59,6 +60,12 @@ module _ {Key Id Name F : Type 0} (c d : Context Key Id Name) (ks : List (Binder
       (s : Assign) → IsErasedSolution c.store s →
       Follows (c.store).universe [] rs (one (apply s (goal_tree c g))) → ⊥
   NoFollowsNever result = Unit {0}
+
+  -- After a yes what is recorded is first-order still, and the current universe is what it was.
+  abbrev pub YesStaysFirstOrder : Result Told F → Type 0
+  YesStaysFirstOrder (Ok Yes) = (rs : List Rule) → IsExact (c.store).universe c ks rs →
+      IsFirstOrderClause (goal_tree c g) → IsFirstOrderAt (c.store).universe d.store
+  YesStaysFirstOrder result = Unit {0}
 
   -- Where the answer isn't yes, what is recorded is what was.
   abbrev pub LeavesNothing : Result Told F → Type 0

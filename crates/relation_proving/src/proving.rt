@@ -7,7 +7,7 @@ ghost use Rattle.relation_proving.specs.RuleTerms.{MayUse};
 ghost use Rattle.relation_proving.specs.Telling.{MayProve, GoesOn, IsBack, TellsGoal, TellsAll, TellsRule};
 ghost use Rattle.relation_proving.specs.Searching.{TellsRound, TellsTried};
 ghost use Rattle.relation_proving.specs.Answers.{YesDerives, YesMakesFollow, YesLosesNone};
-ghost use Rattle.relation_proving.specs.Answers.{NoFollowsNever, LeavesNothing};
+ghost use Rattle.relation_proving.specs.Answers.{NoFollowsNever, YesStaysFirstOrder, LeavesNothing};
 
 use crate::barring::is_passed_over;
 use crate::candidate::{Candidate, try_rule};
@@ -36,7 +36,8 @@ use relation_terms::terms::{Clause, ParamEnv, Span};
 /// recorded after `Yes` makes the goal derived, by the relation at `Invariant`: of an alias and what it comes to by that of
 /// both. Where besides the goal, the rules and what is recorded are first-order, but for an alias that comes to something,
 /// `Yes` says that up to erasure each solution which is left makes the goal follow, and that none was lost under which it
-/// follows; and `No` that under no solution it does, at no depth. After `No` and `Maybe` what is recorded is what was.
+/// follows; and `No` that under no solution it does, at no depth; what is recorded stays first-order. After `No` and
+/// `Maybe` it is what was.
 ///
 /// # Errors
 /// `Budget` where no instantiation is left, and `Memory` where a growth was refused. More may be recorded then; all
@@ -55,6 +56,7 @@ pub fn prove<C: KeepsRecord>(
     ensures sound { YesMakesFollow (C.state ctx.old) (C.state ctx.new) rules.now goal.now result }
     ensures principal { YesLosesNone (C.state ctx.old) (C.state ctx.new) rules.now goal.now result }
     ensures none { NoFollowsNever (C.state ctx.old) (C.state ctx.new) rules.now goal.now result }
+    ensures first_order { YesStaysFirstOrder (C.state ctx.old) (C.state ctx.new) rules.now goal.now result }
     ensures back { LeavesNothing (C.state ctx.old) (C.state ctx.new) rules.now goal.now result }
     ensures later { IsLater (C.state ctx.old).store (C.state ctx.new).store }
     ensures lawful { (C.state ctx.new).lawful }

@@ -28,10 +28,10 @@ use Rattle.relation_solver.proofs.Shadows.{shadow_value, unshadowed}
 
 module _ (u : ℕ) (held : List Tree) (rules : List Rule) where
   -- What follows, follows for whatever is alike.
-  follows_one : {g : Tree} (h : Tree) → erase g ≡ erase h → Follows u held rules (one g) → Follows u held rules (one h)
+  pub follows_one : {g : Tree} (h : Tree) → erase g ≡ erase h → Follows u held rules (one g) → Follows u held rules (one h)
   follows_one h q (by_rule r xs g c f n w e k) = by_rule r xs h c f n w (sym q ∙ e) k
 
-  follows_all : {gs : List Tree} (hs : List Tree) → AreAlike gs hs → Follows u held rules (all gs) →
+  pub follows_all : {gs : List Tree} (hs : List Tree) → AreAlike gs hs → Follows u held rules (all gs) →
       Follows u held rules (all hs)
   follows_all [] q none_left = none_left
   follows_all (h ∷ hs) q none_left = absurd q
@@ -98,15 +98,15 @@ module _ (u : ℕ) (held : List Tree) (rules : List Rule) where
     sound (no_later before middle g gs hs w d l e) = tt
 
     -- A solution that goes on where a rule is opened with given values and related with a goal.
-    record Fitted (before opened middle : Store) (s : Assign) (vars xs : List Tree) : Type 0 where
-      at_opening : Assign
-      agrees : AgreeOn before s at_opening
-      values : map (apply at_opening) vars ≡ xs
-      after : Assign
-      agrees_after : AgreeErased opened at_opening after
-      solves : IsErasedSolution middle after
+    pub record Fitted (before opened middle : Store) (s : Assign) (vars xs : List Tree) : Type 0 where
+      pub at_opening : Assign
+      pub agrees : AgreeOn before s at_opening
+      pub values : map (apply at_opening) vars ≡ xs
+      pub after : Assign
+      pub agrees_after : AgreeErased opened at_opening after
+      pub solves : IsErasedSolution middle after
 
-    fitted : (before opened middle : Store) (r : Rule) (vars : List Tree) (g : Tree) → Opens u before opened r vars →
+    pub fitted : (before opened middle : Store) (r : Rule) (vars : List Tree) (g : Tree) → Opens u before opened r vars →
         Exact opened middle g (inst vars 0 r.gives) → InContext before g → (s : Assign) (xs : List Tree) →
         IsErasedSolution before s → FitKinds r.binds xs → AllNamable u xs → erase (apply s g) ≡ erase (inst xs 0 r.gives) →
         Fitted before opened middle s vars xs
@@ -128,10 +128,10 @@ module _ (u : ℕ) (held : List Tree) (rules : List Rule) where
     module _ (before opened middle : Store) (r : Rule) (vars : List Tree) (g : Tree) (o : Opens u before opened r vars)
         (f : Exact opened middle g (inst vars 0 r.gives)) (s : Assign) (xs : List Tree)
         (t : Fitted before opened middle s vars xs) where
-      fitted_agrees : AgreeErased before s t.after
+      pub fitted_agrees : AgreeErased before s t.after
       fitted_agrees j n m = ap erase (t.agrees j n m) ∙ t.agrees_after j n (o.makes.later.grows j n m)
 
-      asks_alike : AreAlike (map (inst xs 0) r.asks) (map (apply t.after) (map (inst vars 0) r.asks))
+      pub asks_alike : AreAlike (map (inst xs 0) r.asks) (map (apply t.after) (map (inst vars 0) r.asks))
       asks_alike = subst (λ z. AreAlike z (map (apply t.after) (map (inst vars 0) r.asks)))
           (opened_values t.at_opening vars xs r.asks o.asks_closed t.values)
           (alike_values opened t.at_opening t.after (map (inst vars 0) r.asks) t.agrees_after o.asks_in)

@@ -1,0 +1,4 @@
+pub mod Following
+pub mod Bounds
+pub mod Meeting
+pub mod Opening

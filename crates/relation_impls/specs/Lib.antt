@@ -1,0 +1,3 @@
+pub mod Overlaps
+pub mod Telling
+pub mod Answers
