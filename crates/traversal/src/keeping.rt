@@ -10,7 +10,6 @@ use std::hash::{BuildHasher, Hash};
 use term_enums::OutOfMemory;
 
 /// Keeps an element, and answers whether it was not kept before.
-#[inline(always)]
 pub fn keep<T: Copy + Eq + Hash, S: BuildHasher>(
     set: &mut HashSet<T, S>,
     item: T,
