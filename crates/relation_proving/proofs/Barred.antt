@@ -1,20 +1,23 @@
 -- What a quick test bars is no instance of what a rule gives.
-use Rattle.std.proofs.Common.{◌≡◌, ◌∙◌, ◌<◌, ℕ, zero, suc, refl, sym, ap, subst, List, [], ◌∷◌, length, get_or, All}
+use Rattle.std.proofs.Common.{◌≡◌, ◌∙◌, ◌<◌, ℕ, zero, suc, refl, sym, ap, subst, subst₂, List, [], ◌∷◌, length, get_or, All}
 use Rattle.std.proofs.Common.{true, false, Option, Some, None, IsTrue, arith}
 use Rattle.std.specs.Prelude.{Bool, IsFalse, not}
 use Rattle.std.proofs.lemmas.Bool.{and_parts, true≢false, false≢true}
 use Rattle.std.proofs.lemmas.List.Elements.{All-nil, All-cons}
 use Rattle.term_enums.specs.declared.PredicatePolarity.{PredicatePolarity}
-use Rattle.relation_terms.specs.declared.predicate.trait_ref.TraitPredicate.{TraitPredicate}
+use Rattle.relation_terms.specs.declared.predicate.kinds.ClauseKind.{ClauseKind}
+use Rattle.relation_terms.specs.declared.predicate.kinds.ClauseKind.TheVariants.{Trait, Projection}
 use Rattle.relation_terms.specs.declared.terms.binder.Binder.{Binder}
+use Rattle.relation_terms.specs.declared.terms.keys.ArgsKey.{ArgsKey}
 use Rattle.relation_terms.specs.declared.terms.keys.ClauseKey.{ClauseKey}
 use Rattle.relation_terms.specs.declared.terms.keys.ClausesKey.{ClausesKey}
 use Rattle.relation_terms.specs.declared.terms.keys.ParamEnvKey.{ParamEnvKey}
-use Rattle.relation_terms.specs.Clauses.{trait_clause_tree}
 use Rattle.relation_terms.specs.Erasure.{erase}
-use Rattle.relation_terms.specs.Heads.{BoundKind, trait_ref, trait_clause, clause_sort, one, binder_of}
+use Rattle.relation_terms.specs.Heads.{BoundKind, AliasTermKind, trait_ref, trait_clause, projection, alias_term}
+use Rattle.relation_terms.specs.Heads.{clause_sort, one, binder_of}
 use Rattle.relation_terms.specs.Interning.{Sorted}
-use Rattle.relation_terms.specs.Meaning.{under}
+use Rattle.relation_terms.specs.Meaning.{Meaning, term_tree, under}
+use Rattle.relation_terms.specs.Predicates.{alias_term_kind, alias_term_id, clause_kind_tree, clause_tree}
 use Rattle.relation_terms.specs.Trees.{Tree, node, bind, nil, cons, list_tree, known, inst, Assign, apply, Fits, Leaves}
 use Rattle.relation_terms.proofs.Binders.{under_known}
 use Rattle.relation_terms.proofs.Paths.{bind_path, parts_path, first_path, rest_path}
@@ -35,31 +38,51 @@ use Rattle.relation_proving.specs.Bodies.{IsBodyOf}
 use Rattle.relation_proving.specs.Candidates.{IsFirstOrderClause, MayAsk}
 use Rattle.relation_proving.specs.RuleTerms.{MayUse}
 use Rattle.relation_proving.specs.Telling.{goal_tree, TellsRule}
-use Rattle.relation_proving.specs.Traits.{GivesAnother}
+use Rattle.relation_proving.specs.Subjects.{args_of, GivesAnother}
 use Rattle.relation_proving.specs.declared.told.Told.TheVariants.{No}
-use Rattle.relation_proving.proofs.OtherTraits.{apart_by_trait, first_given, gives_is}
+use Rattle.relation_proving.proofs.OtherSubjects.{apart_by_subject, first_given, gives_is}
 use Rattle.relation_proving.proofs.Unbound.{body_in}
 
 pub is_false : (b : Bool) → IsTrue (not b) → IsFalse b
 is_false true h = absurd (false≢true h)
 is_false false h = refl
 
+some_same : {X : Type 0} {x y : X} → Some x ≡ Some y → x ≡ y
+some_same e = cc
+
+none_found : {X : Type 0} {x : X} → None ≡ Some x → ⊥
+none_found e = cc
+
 -- What a clause says of a trait with these arguments.
 abbrev of_trait : PredicatePolarity → ℕ → Tree → Tree
 of_trait p d t = node (trait_clause p) (cons (node (trait_ref d) t) nil)
 
--- Its arguments are first-order, known and the context's where it is.
-first_order_args : (p : PredicatePolarity) (d : ℕ) (t : Tree) → IsFirstOrderClause (bind [] (of_trait p d t)) →
-    IsFirstOrder t
-first_order_args p d t h = h.3.0.3
+-- What a clause says to which an alias of these arguments comes.
+abbrev of_item : AliasTermKind → ℕ → Tree → Tree → Tree
+of_item k d t x = node projection (cons (node (alias_term k d) t) (cons x nil))
 
-known_args : (o : Option (List BoundKind)) (p : PredicatePolarity) (d : ℕ) (t : Tree) →
-    IsTrue (known (under o (of_trait p d t))) → IsTrue (known t)
-known_args o p d t h = (and_parts (known t) true (under_known o (of_trait p d t) h).1).0
+-- The arguments of what a clause says are first-order, known and the context's where it is.
+module _ {Key Id Name : Type 0} (m : Meaning Key Id Name) where
+  first_order_args : (p : ClauseKind Key Id Name) (a : ArgsKey Key) → args_of p ≡ Some a →
+      IsFirstOrderClause (bind [] (clause_kind_tree m p)) → IsFirstOrder (m.args a)
+  first_order_args (Trait p) a e h = subst (λ k. IsFirstOrder (m.args k)) (some_same e) h.3.0.3
+  first_order_args (Projection p) a e h = subst (λ k. IsFirstOrder (m.args k)) (some_same e) h.0.3
+  first_order_args _ a e h = absurd (none_found e)
 
-args_in : (st : Store) (p : PredicatePolarity) (d : ℕ) (t : Tree) → IsTermIn st (of_trait p d t) → IsTermIn st t
-unfolding IsTermIn InContext
-args_in st p d t h = (h.0.0, h.1.0, h.2.0)
+  body_args_known : (p : ClauseKind Key Id Name) (a : ArgsKey Key) → args_of p ≡ Some a →
+      IsTrue (known (clause_kind_tree m p)) → IsTrue (known (m.args a))
+  body_args_known (Trait p) a e h = subst (λ k. IsTrue (known (m.args k))) (some_same e)
+      (and_parts (known (m.args (p.trait_ref).args)) true h).0
+  body_args_known (Projection p) a e h = subst (λ k. IsTrue (known (m.args k))) (some_same e)
+      (and_parts (known (m.args (p.projection_term).args)) (known (cons (term_tree m p.term) nil)) h).0
+  body_args_known _ a e h = absurd (none_found e)
+
+  args_in : (st : Store) (p : ClauseKind Key Id Name) (a : ArgsKey Key) → args_of p ≡ Some a →
+      IsTermIn st (clause_kind_tree m p) → IsTermIn st (m.args a)
+  unfolding IsTermIn InContext
+  args_in st (Trait p) a e h = subst (λ k. IsTermIn st (m.args k)) (some_same e) (h.0.0, h.1.0, h.2.0)
+  args_in st (Projection p) a e h = subst (λ k. IsTermIn st (m.args k)) (some_same e) (h.0.0, h.1.0, h.2.0)
+  args_in st _ a e h = absurd (none_found e)
 
 -- Each of a first-order list is.
 pub each_first_order : {K : Type 0} (f : K → Tree) (ks : List K) → IsFirstOrder (list_tree f ks) →
@@ -107,15 +130,68 @@ module _ {Key Id Name : Type 0} (c : Context Key Id Name) where
   in_binder ks None t u z s n sol (put f h v w) e = absurd cc
   in_binder ks None t u z s n sol (kept_leaf f) e = absurd cc
 
-  clause_apart : (o : Option (List BoundKind)) (p q : PredicatePolarity) (d k : ℕ) (t u : Tree) → IsNoInstance c t u →
-      IsNoInstance c (bind [] (of_trait p d t)) (under o (of_trait q k u))
-  clause_apart o p q d k t u n =
+  in_alias : (k l : AliasTermKind) (d e : ℕ) (t u z : Tree) (s : Assign) → IsNoInstance c t u →
+      IsErasedSolution c.store s → Instance (flexible true) (node (alias_term l e) u) z →
+      erase (apply s (node (alias_term k d) t)) ≡ erase z → ⊥
+  in_alias k l d e t u z s n sol (put f h v w) q = absurd cc
+  in_alias k l d e t u z s n sol (kept_node {us = x} f i) q = n s x sol i (parts_path q)
+
+  in_projection : (t u z : Tree) (s : Assign) → IsNoInstance c t u → IsErasedSolution c.store s →
+      Instance (flexible true) (node projection u) z → erase (apply s (node projection t)) ≡ erase z → ⊥
+  in_projection t u z s n sol (put f h v w) q = absurd cc
+  in_projection t u z s n sol (kept_node {us = x} f i) q = n s x sol i (parts_path q)
+
+  traits_apart : (p q : PredicatePolarity) (d k : ℕ) (t u : Tree) → IsNoInstance c t u →
+      IsNoInstance c (of_trait p d t) (of_trait q k u)
+  traits_apart p q d k t u n =
       let refs : IsNoInstance c (node (trait_ref d) t) (node (trait_ref k) u) = λ s z sol i e. in_ref d k t u z s n sol i e in
       let lists : IsNoInstance c (cons (node (trait_ref d) t) nil) (cons (node (trait_ref k) u) nil) =
       λ s z sol i e. at_first (node (trait_ref d) t) nil (node (trait_ref k) u) nil z s refs sol i e in
-      let bodies : IsNoInstance c (of_trait p d t) (of_trait q k u) = λ s z sol i e.
-      in_clause p q (cons (node (trait_ref d) t) nil) (cons (node (trait_ref k) u) nil) z s lists sol i e in
-      λ s z sol i e. in_binder [] o (of_trait p d t) (of_trait q k u) z s bodies sol i e
+      λ s z sol i e. in_clause p q (cons (node (trait_ref d) t) nil) (cons (node (trait_ref k) u) nil) z s lists sol i e
+
+  items_apart : (k l : AliasTermKind) (d e : ℕ) (t u x y : Tree) → IsNoInstance c t u →
+      IsNoInstance c (of_item k d t x) (of_item l e u y)
+  items_apart k l d e t u x y n =
+      let aliases : IsNoInstance c (node (alias_term k d) t) (node (alias_term l e) u) =
+      λ s z sol i q. in_alias k l d e t u z s n sol i q in
+      let lists : IsNoInstance c (cons (node (alias_term k d) t) (cons x nil)) (cons (node (alias_term l e) u) (cons y nil)) =
+      λ s z sol i q. at_first (node (alias_term k d) t) (cons x nil) (node (alias_term l e) u) (cons y nil) z s aliases sol i q in
+      λ s z sol i q. in_projection (cons (node (alias_term k d) t) (cons x nil)) (cons (node (alias_term l e) u) (cons y nil))
+      z s lists sol i q
+
+  -- Of a trait and an item neither is an instance of the other.
+  trait_no_item : (p : PredicatePolarity) (l : AliasTermKind) (d e : ℕ) (t u y : Tree) →
+      IsNoInstance c (of_trait p d t) (of_item l e u y)
+  trait_no_item p l d e t u y s z sol (put f h v w) q = absurd cc
+  trait_no_item p l d e t u y s z sol (kept_node f i) q = absurd cc
+
+  item_no_trait : (k : AliasTermKind) (q : PredicatePolarity) (d e : ℕ) (t u x : Tree) →
+      IsNoInstance c (of_item k d t x) (of_trait q e u)
+  item_no_trait k p d e t u x s z sol (put f h v w) q = absurd cc
+  item_no_trait k p d e t u x s z sol (kept_node f i) q = absurd cc
+
+  -- Where the arguments are no instance, what is said is none.
+  kinds_apart : (q p : ClauseKind Key Id Name) (a b : ArgsKey Key) → args_of q ≡ Some a → args_of p ≡ Some b →
+      IsNoInstance c ((c.meaning).args a) ((c.meaning).args b) →
+      IsNoInstance c (clause_kind_tree c.meaning q) (clause_kind_tree c.meaning p)
+  kinds_apart (Trait q) (Trait p) a b e f n = traits_apart q.polarity p.polarity ((c.meaning).id ((q.trait_ref).def_id).0)
+      ((c.meaning).id ((p.trait_ref).def_id).0) ((c.meaning).args (q.trait_ref).args)
+      ((c.meaning).args (p.trait_ref).args)
+      (subst₂ (λ x y. IsNoInstance c ((c.meaning).args x) ((c.meaning).args y)) (sym (some_same e)) (sym (some_same f)) n)
+  kinds_apart (Projection q) (Projection p) a b e f n = items_apart (alias_term_kind (q.projection_term).kind)
+      (alias_term_kind (p.projection_term).kind) ((c.meaning).id (alias_term_id (q.projection_term).kind))
+      ((c.meaning).id (alias_term_id (p.projection_term).kind)) ((c.meaning).args (q.projection_term).args)
+      ((c.meaning).args (p.projection_term).args) (term_tree c.meaning q.term) (term_tree c.meaning p.term)
+      (subst₂ (λ x y. IsNoInstance c ((c.meaning).args x) ((c.meaning).args y)) (sym (some_same e)) (sym (some_same f)) n)
+  kinds_apart (Trait q) (Projection p) a b e f n = trait_no_item q.polarity (alias_term_kind (p.projection_term).kind)
+      ((c.meaning).id ((q.trait_ref).def_id).0) ((c.meaning).id (alias_term_id (p.projection_term).kind))
+      ((c.meaning).args (q.trait_ref).args) ((c.meaning).args (p.projection_term).args) (term_tree c.meaning p.term)
+  kinds_apart (Projection q) (Trait p) a b e f n = item_no_trait (alias_term_kind (q.projection_term).kind) p.polarity
+      ((c.meaning).id (alias_term_id (q.projection_term).kind)) ((c.meaning).id ((p.trait_ref).def_id).0)
+      ((c.meaning).args (q.projection_term).args) ((c.meaning).args (p.trait_ref).args) (term_tree c.meaning q.term)
+  kinds_apart (Trait q) _ a b e f n = absurd (none_found f)
+  kinds_apart (Projection q) _ a b e f n = absurd (none_found f)
+  kinds_apart _ p a b e f n = absurd (none_found e)
 
   pub list_apart : {K : Type 0} (f : K → Tree) (xs ys : List K) (i : ℕ) (x y : K) → i < length xs → i < length ys →
       x ≡ get_or xs i x → y ≡ get_or ys i y → IsNoInstance c (f x) (f y) →
@@ -132,39 +208,36 @@ module _ {Key Id Name : Type 0} (c : Context Key Id Name) where
       λ s z sol j e. at_rest (f a) (list_tree f xs) (f b) (list_tree f ys) z s rest sol j e
 
   -- The arguments of a goal are known and the context's.
-  module _ (g : ClauseKey Key) (q : TraitPredicate Key Id) (says : IsBodyOf c.meaning g q) (asked : MayAsk c g) where
-    pub goal_args_known : IsTrue (known ((c.meaning).args (q.trait_ref).args))
-    goal_args_known = known_args (Some []) q.polarity ((c.meaning).id ((q.trait_ref).def_id).0)
-        ((c.meaning).args (q.trait_ref).args) (subst (λ t. IsTrue (known t)) says asked.is_known)
+  module _ (g : ClauseKey Key) (q : ClauseKind Key Id Name) (a : ArgsKey Key) (is : args_of q ≡ Some a)
+      (says : IsBodyOf c.meaning g q) (asked : MayAsk c g) where
+    pub goal_args_known : IsTrue (known ((c.meaning).args a))
+    goal_args_known = body_args_known c.meaning q a is (subst (λ t. IsTrue (known t)) says asked.is_known)
 
-    pub goal_args_in : IsTermIn c.store ((c.meaning).args (q.trait_ref).args)
-    goal_args_in = args_in c.store q.polarity ((c.meaning).id ((q.trait_ref).def_id).0)
-        ((c.meaning).args (q.trait_ref).args)
-        (body_in c.store (of_trait q.polarity ((c.meaning).id ((q.trait_ref).def_id).0)
-        ((c.meaning).args (q.trait_ref).args)) (subst (IsTermIn c.store) says asked.is_in)
+    pub goal_args_in : IsTermIn c.store ((c.meaning).args a)
+    goal_args_in = args_in c.meaning c.store q a is
+        (body_in c.store (clause_kind_tree c.meaning q) (subst (IsTermIn c.store) says asked.is_in)
         (subst IsWellBound says asked.taken))
 
-  pub given_args_known : (given : ClauseKey Key) (b : Binder Key (TraitPredicate Key Id)) →
-      (c.meaning).clause given ≡ trait_clause_tree c.meaning b → IsTrue (known ((c.meaning).clause given)) →
-      IsTrue (known ((c.meaning).args ((b.value).trait_ref).args))
-  given_args_known given b gives h = known_args ((c.meaning).bound_vars b.bound_vars) (b.value).polarity
-      ((c.meaning).id (((b.value).trait_ref).def_id).0) ((c.meaning).args ((b.value).trait_ref).args)
-      (subst (λ t. IsTrue (known t)) gives h)
+  pub given_args_known : (given : ClauseKey Key) (b : Binder Key (ClauseKind Key Id Name)) (a : ArgsKey Key) →
+      args_of b.value ≡ Some a → (c.meaning).clause given ≡ clause_tree c.meaning b →
+      IsTrue (known ((c.meaning).clause given)) → IsTrue (known ((c.meaning).args a))
+  given_args_known given b a is gives h = body_args_known c.meaning b.value a is
+      (under_known ((c.meaning).bound_vars b.bound_vars) (clause_kind_tree c.meaning b.value)
+      (subst (λ t. IsTrue (known t)) gives h)).1
 
   -- What bars their arguments bars two clauses.
-  pub clause_barred : (g given : ClauseKey Key) (q : TraitPredicate Key Id) (b : Binder Key (TraitPredicate Key Id)) →
-      IsBodyOf c.meaning g q → (c.meaning).clause given ≡ trait_clause_tree c.meaning b →
-      Bars c ((c.meaning).args (q.trait_ref).args) ((c.meaning).args ((b.value).trait_ref).args) →
+  pub clause_barred : (g given : ClauseKey Key) (q : ClauseKind Key Id Name) (b : Binder Key (ClauseKind Key Id Name))
+      (x y : ArgsKey Key) → args_of q ≡ Some x → args_of b.value ≡ Some y → IsBodyOf c.meaning g q →
+      (c.meaning).clause given ≡ clause_tree c.meaning b → Bars c ((c.meaning).args x) ((c.meaning).args y) →
       BarsClause c ((c.meaning).clause g) ((c.meaning).clause given)
-  clause_barred g given q b says gives bars = λ bindings f.
-      let d = (c.meaning).id ((q.trait_ref).def_id).0 in
-      let k = (c.meaning).id (((b.value).trait_ref).def_id).0 in
-      let t = (c.meaning).args (q.trait_ref).args in
-      let u = (c.meaning).args ((b.value).trait_ref).args in
-      let apart = clause_apart ((c.meaning).bound_vars b.bound_vars) q.polarity (b.value).polarity d k t u
-      (bars bindings (first_order_args q.polarity d t (subst IsFirstOrderClause says f))) in
+  clause_barred g given q b x y i j says gives bars = λ bindings f.
+      let bodies = kinds_apart q b.value x y i j
+      (bars bindings (first_order_args c.meaning q x i (subst IsFirstOrderClause says f))) in
+      let apart : IsNoInstance c (bind [] (clause_kind_tree c.meaning q)) (clause_tree c.meaning b) =
+      λ s z sol k e. in_binder [] ((c.meaning).bound_vars b.bound_vars) (clause_kind_tree c.meaning q)
+      (clause_kind_tree c.meaning b.value) z s bodies sol k e in
       subst (λ z. IsNoInstance c z ((c.meaning).clause given)) (sym says)
-      (subst (λ z. IsNoInstance c (bind [] (of_trait q.polarity d t)) z) (sym gives) apart)
+      (subst (λ z. IsNoInstance c (bind [] (clause_kind_tree c.meaning q)) z) (sym gives) apart)
 
   module _ (k : Binder Key (ClausesKey Key)) (g : ClauseKey Key) where
     barred_never : Sorted c.meaning → MayUse c k → (given : ClauseKey Key) (others : Tree) →
@@ -194,7 +267,7 @@ module _ {Key Id Name : Type 0} (c : Context Key Id Name) where
 
     pub another_never : MayAsk c g → GivesAnother c.meaning k g → NeverGives c k g
     another_never asked a = λ u r may s xs sol fits same.
-        apart_by_trait c.meaning g a.given (a.are_two).of (a.are_two).first (a.are_two).second asked.is_known s xs
+        apart_by_subject c.meaning k g a asked.is_known s xs
         (same ∙ ap (λ t. erase (inst xs 0 t)) (gives_is c.meaning k g r ((may.rule).rule).is_rule a))
 
 -- A rule that never gives what a goal asks for fails.

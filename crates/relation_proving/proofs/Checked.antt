@@ -1,28 +1,31 @@
 -- What a test of a goal, of a rule's clause and of a rule says.
-use Rattle.std.proofs.Common.{◌≡◌, ◌↔◌, refl, sym, ◌∙◌, subst, List, [], ◌∷◌, Option, Some, None, Bool, true, false}
+use Rattle.std.proofs.Common.{◌≡◌, ◌↔◌, refl, sym, ◌∙◌, ap, subst, List, [], ◌∷◌, Option, Some, None, Bool, true, false}
 use Rattle.std.proofs.Common.{IsTrue, All, Result, Ok, Err, ℕ, ◌<◌, length, get_or}
 use Rattle.std.specs.Prelude.{is_ok, OnOk, OnErr, IsSome}
 use Rattle.std.proofs.lemmas.Bool.{false≢true}
 use Rattle.std.proofs.lemmas.List.Elements.{All-nil, All-cons, All-head, All-tail, All-get_or}
+use Rattle.relation_terms.specs.declared.predicate.alias_term.ProjectionPredicate.{ProjectionPredicate}
+use Rattle.relation_terms.specs.declared.predicate.kinds.ClauseKind.{ClauseKind}
+use Rattle.relation_terms.specs.declared.predicate.kinds.ClauseKind.TheVariants.{Trait, Projection}
 use Rattle.relation_terms.specs.declared.predicate.trait_ref.TraitPredicate.{TraitPredicate}
 use Rattle.relation_terms.specs.declared.terms.binder.Binder.{Binder}
 use Rattle.relation_terms.specs.declared.terms.keys.BoundVarsKey.{BoundVarsKey}
 use Rattle.relation_terms.specs.declared.terms.keys.ClauseKey.{ClauseKey}
 use Rattle.relation_terms.specs.declared.terms.keys.ClausesKey.{ClausesKey}
-use Rattle.relation_terms.specs.Clauses.{trait_clause_tree}
-use Rattle.relation_terms.specs.Heads.{BoundKind}
-use Rattle.relation_terms.specs.Trees.{Tree, nil, cons, list_tree, known}
+use Rattle.relation_terms.specs.Heads.{BoundKind, trait_clause, projection}
+use Rattle.relation_terms.specs.Trees.{Tree, node, nil, cons, list_tree, known}
 use Rattle.relation_terms.specs.Meaning.{Meaning, under}
-use Rattle.relation_terms.proofs.Binders.{under_known, known_under}
+use Rattle.relation_terms.specs.Predicates.{clause_kind_tree, clause_tree}
+use Rattle.relation_terms.proofs.Binders.{under_known, known_under, under_once}
 use Rattle.relation_semantics.specs.Contexts.{Context}
 use Rattle.relation_semantics.specs.Stores.{Store, InContext, IsTermIn}
 use Rattle.may_relate.specs.Fitting.{MayBeRelated}
 use Rattle.relation_proving.proofs.OpenedRules.{each_known}
 use Rattle.relation_proving.specs.RuleTerms.{KnowsRule, rule_tree}
-use Rattle.relation_proving.specs.Checking.{AreOfTraits, IsTraitGoal, IsTraitPart, IsTraitRule}
+use Rattle.relation_proving.specs.Checking.{IsOfTraitOrItem, IsProvable, AreProvable, IsProvableGoal, IsProvablePart, IsProvableRule}
 
 -- A test says just what is so, and one that fails where it would not that nothing is.
-tested : {E : Type 0} (r : Result (Unit {0}) E) (b : Bool) (P : Type 0) → b ≡ is_ok r → OnOk r P →
+pub tested : {E : Type 0} (r : Result (Unit {0}) E) (b : Bool) (P : Type 0) → b ≡ is_ok r → OnOk r P →
     OnErr r (P → ⊥) → IsTrue b ↔ P
 tested (Ok x) b P e is other = (λ t. is, λ p. e)
 tested (Err x) b P e is other = (λ t. absurd (false≢true (sym e ∙ t)), λ p. absurd (other p))
@@ -58,94 +61,154 @@ unfolding IsTermIn InContext
 rest_related st (Some ks) t ts p = ((p.0.0.1, p.0.1.1, p.0.2.1), (p.1.0.1, p.1.1.1))
 rest_related st None t ts p = p
 
+-- What a clause is of is seen by its tree.
+abbrev is_said : Tree → Bool
+is_said (node (trait_clause p) ts) = true
+is_said (node projection ts) = true
+is_said t = false
+
+module _ {Key Id Name : Type 0} (m : Meaning Key Id Name) where
+  said_so : (p : ClauseKind Key Id Name) → IsOfTraitOrItem p → is_said (clause_kind_tree m p) ≡ true
+  said_so (Trait p) h = refl
+  said_so (Projection p) h = refl
+  said_so _ h = absurd h
+
+  said_otherwise : (p : ClauseKind Key Id Name) → (IsOfTraitOrItem p → ⊥) → is_said (clause_kind_tree m p) ≡ false
+  said_otherwise (Trait p) n = absurd (n tt)
+  said_otherwise (Projection p) n = absurd (n tt)
+  said_otherwise _ n = refl
+
+  not_of : (p : ClauseKind Key Id Name) → ((q : TraitPredicate Key Id) → p ≡ Trait q → ⊥) →
+      ((q : ProjectionPredicate Key Id) → p ≡ Projection q → ⊥) → IsOfTraitOrItem p → ⊥
+  not_of (Trait q) f k h = f q refl
+  not_of (Projection q) f k h = k q refl
+  not_of _ f k h = h
+
+  -- One tree is of one kind.
+  no_other : (t : Tree) (b : Binder Key (ClauseKind Key Id Name)) → IsTrue (known t) → t ≡ clause_tree m b →
+      (IsOfTraitOrItem b.value → ⊥) → IsProvable m t → ⊥
+  no_other t b h e n p =
+      let one = under_once (m.bound_vars b.bound_vars) (m.bound_vars (p.form).bound_vars) (clause_kind_tree m b.value)
+      (clause_kind_tree m (p.form).value) (subst (λ z. IsTrue (known z)) e h) (sym e ∙ p.means) in
+      false≢true (sym (said_otherwise b.value n) ∙ (ap is_said one.1 ∙ said_so (p.form).value p.says))
+
 module _ {Key Id Name : Type 0} where
   -- A goal.
-  module _ (c : Context Key Id Name) (k : ClauseKey Key) where
-    pub goal_passed : {E : Type 0} (h : IsTrue (known ((c.meaning).clause k))) (b : Binder Key (TraitPredicate Key Id)) →
-        (c.meaning).clause k ≡ trait_clause_tree c.meaning b → (r : Result (Unit {0}) E) (answer : Bool) → answer ≡ is_ok r →
-        OnOk r (MayBeRelated c.store (trait_clause_tree c.meaning b)) →
-        OnErr r (MayBeRelated c.store (trait_clause_tree c.meaning b) → ⊥) → IsTrue answer ↔ IsTraitGoal c k
-    goal_passed h b e r answer says may may_not =
-        let p = tested r answer (MayBeRelated c.store (trait_clause_tree c.meaning b)) says may may_not in (
-          λ t. let q = subst (MayBeRelated c.store) (sym e) (p.0 t) in
-              record { of_trait = (b, e); may = record { is_known = h; is_in = q.0; taken = q.1 } },
-          λ g. p.1 (subst (MayBeRelated c.store) e ((g.may).is_in, (g.may).taken)),
-        )
+  module _ (c : Context Key Id Name) (k : ClauseKey Key) (b : Binder Key (ClauseKind Key Id Name))
+      (e : (c.meaning).clause k ≡ clause_tree c.meaning b) (h : IsTrue (known ((c.meaning).clause k))) where
+    pub goal_known : (p : ClauseKind Key Id Name) → b.value ≡ p →
+        IsTrue (known (under ((c.meaning).bound_vars b.bound_vars) (clause_kind_tree c.meaning p)))
+    goal_known p is = subst (λ z. IsTrue (known (under ((c.meaning).bound_vars b.bound_vars) (clause_kind_tree c.meaning z))))
+        is (subst (λ t. IsTrue (known t)) e h)
 
-    pub no_goal : ((b : Binder Key (TraitPredicate Key Id)) → (c.meaning).clause k ≡ trait_clause_tree c.meaning b → ⊥) →
-        IsTrue false ↔ IsTraitGoal c k
-    no_goal n = (λ t. absurd (false≢true t), λ g. absurd (n (g.of_trait).0 (g.of_trait).1))
+    goal_by : (answer : Bool) → IsOfTraitOrItem b.value →
+        IsTrue answer ↔ MayBeRelated c.store (clause_tree c.meaning b) → IsTrue answer ↔ IsProvableGoal c k
+    goal_by answer says p = (
+      λ t. let q = subst (MayBeRelated c.store) (sym e) (p.0 t) in
+          record {
+            provable = record { form = b; means = e; says = says };
+            may = record { is_known = h; is_in = q.0; taken = q.1 };
+          },
+      λ g. p.1 (subst (MayBeRelated c.store) e ((g.may).is_in, (g.may).taken)),
+    )
+
+    pub goal_passed : (p : ClauseKind Key Id Name) → b.value ≡ p → IsOfTraitOrItem p → (answer : Bool) →
+        IsTrue answer ↔ MayBeRelated c.store (under ((c.meaning).bound_vars b.bound_vars) (clause_kind_tree c.meaning p)) →
+        IsTrue answer ↔ IsProvableGoal c k
+    goal_passed p is says answer may = goal_by answer (subst IsOfTraitOrItem (sym is) says)
+        (subst (λ z. IsTrue answer ↔ MayBeRelated c.store (under ((c.meaning).bound_vars b.bound_vars)
+        (clause_kind_tree c.meaning z))) (sym is) may)
+
+    pub no_goal : ((q : TraitPredicate Key Id) → b.value ≡ Trait q → ⊥) →
+        ((q : ProjectionPredicate Key Id) → b.value ≡ Projection q → ⊥) → IsTrue false ↔ IsProvableGoal c k
+    no_goal f g = (
+      λ t. absurd (false≢true t),
+      λ p. absurd (no_other c.meaning ((c.meaning).clause k) b h e (not_of c.meaning b.value f g) p.provable),
+    )
 
   -- A clause under the binder of a rule.
-  module _ (c : Context Key Id Name) (v : BoundVarsKey Key) (k : ClauseKey Key) where
+  module _ (c : Context Key Id Name) (v : BoundVarsKey Key) (k : ClauseKey Key)
+      (b : Binder Key (ClauseKind Key Id Name)) (e : (c.meaning).clause k ≡ clause_tree c.meaning b)
+      (h : IsTrue (known ((c.meaning).clause k))) where
     abbrev stands_as : Tree → Tree
     stands_as t = under ((c.meaning).bound_vars v) t
 
-    pub part_known : (b : Binder Key (TraitPredicate Key Id)) → (c.meaning).clause k ≡ trait_clause_tree c.meaning b →
-        IsSome ((c.meaning).bound_vars v) → IsTrue (known ((c.meaning).clause k)) →
-        IsTrue (known (stands_as (trait_clause_tree c.meaning b)))
-    part_known b e i h = known_under ((c.meaning).bound_vars v) (trait_clause_tree c.meaning b) i
-        (subst (λ t. IsTrue (known t)) e h)
+    pub part_known : (p : ClauseKind Key Id Name) → b.value ≡ p → IsSome ((c.meaning).bound_vars v) →
+        IsTrue (known (stands_as (under ((c.meaning).bound_vars b.bound_vars) (clause_kind_tree c.meaning p))))
+    part_known p is i = subst (λ z. IsTrue (known (stands_as (under ((c.meaning).bound_vars b.bound_vars)
+        (clause_kind_tree c.meaning z))))) is
+        (known_under ((c.meaning).bound_vars v) (clause_tree c.meaning b) i (subst (λ t. IsTrue (known t)) e h))
 
-    pub part_passed : {E : Type 0} (b : Binder Key (TraitPredicate Key Id)) → (c.meaning).clause k ≡ trait_clause_tree c.meaning b →
-        (r : Result (Unit {0}) E) (answer : Bool) → answer ≡ is_ok r →
-        OnOk r (MayBeRelated c.store (stands_as (trait_clause_tree c.meaning b))) →
-        OnErr r (MayBeRelated c.store (stands_as (trait_clause_tree c.meaning b)) → ⊥) →
-        IsTrue answer ↔ IsTraitPart c v k
-    part_passed b e r answer says may may_not =
-        let p = tested r answer (MayBeRelated c.store (stands_as (trait_clause_tree c.meaning b))) says may may_not in (
-          λ t. record { of_trait = (b, e); stands = subst (λ z. MayBeRelated c.store (stands_as z)) (sym e) (p.0 t) },
-          λ g. p.1 (subst (λ z. MayBeRelated c.store (stands_as z)) e g.stands),
-        )
+    part_by : (answer : Bool) → IsOfTraitOrItem b.value →
+        IsTrue answer ↔ MayBeRelated c.store (stands_as (clause_tree c.meaning b)) →
+        IsTrue answer ↔ IsProvablePart c v k
+    part_by answer says p = (
+      λ t. record {
+        provable = record { form = b; means = e; says = says };
+        stands = subst (λ z. MayBeRelated c.store (stands_as z)) (sym e) (p.0 t);
+      },
+      λ g. p.1 (subst (λ z. MayBeRelated c.store (stands_as z)) e g.stands),
+    )
 
-    pub no_part : ((b : Binder Key (TraitPredicate Key Id)) → (c.meaning).clause k ≡ trait_clause_tree c.meaning b → ⊥) →
-        IsTrue false ↔ IsTraitPart c v k
-    no_part n = (λ t. absurd (false≢true t), λ g. absurd (n (g.of_trait).0 (g.of_trait).1))
+    pub part_passed : (p : ClauseKind Key Id Name) → b.value ≡ p → IsOfTraitOrItem p → (answer : Bool) →
+        IsTrue answer ↔ MayBeRelated c.store
+        (stands_as (under ((c.meaning).bound_vars b.bound_vars) (clause_kind_tree c.meaning p))) →
+        IsTrue answer ↔ IsProvablePart c v k
+    part_passed p is says answer may = part_by answer (subst IsOfTraitOrItem (sym is) says)
+        (subst (λ z. IsTrue answer ↔ MayBeRelated c.store (stands_as (under ((c.meaning).bound_vars b.bound_vars)
+        (clause_kind_tree c.meaning z)))) (sym is) may)
+
+    pub no_part : ((q : TraitPredicate Key Id) → b.value ≡ Trait q → ⊥) →
+        ((q : ProjectionPredicate Key Id) → b.value ≡ Projection q → ⊥) → IsTrue false ↔ IsProvablePart c v k
+    no_part f g = (
+      λ t. absurd (false≢true t),
+      λ p. absurd (no_other c.meaning ((c.meaning).clause k) b h e (not_of c.meaning b.value f g) p.provable),
+    )
 
   -- All clauses of a list under such a binder, and the list.
   module _ (c : Context Key Id Name) (v : BoundVarsKey Key) where
     record Listed (ts : Tree) : Type 0 where
-      of_traits : AreOfTraits c.meaning ts
+      provable : AreProvable c.meaning ts
       stands : MayBeRelated c.store (under ((c.meaning).bound_vars v) ts)
 
-    list_of_parts : IsSome ((c.meaning).bound_vars v) → (ks : List (ClauseKey Key)) → All (IsTraitPart c v) ks →
+    list_of_parts : IsSome ((c.meaning).bound_vars v) → (ks : List (ClauseKey Key)) → All (IsProvablePart c v) ks →
         Listed (list_tree (c.meaning).clause ks)
-    list_of_parts i [] h = record { of_traits = tt; stands = nil_related c.store ((c.meaning).bound_vars v) i }
+    list_of_parts i [] h = record { provable = tt; stands = nil_related c.store ((c.meaning).bound_vars v) i }
     list_of_parts i (k ∷ ks) h =
-        let first = All-head (IsTraitPart c v) k ks h in
-        let rest = list_of_parts i ks (All-tail (IsTraitPart c v) k ks h) in
+        let first = All-head (IsProvablePart c v) k ks h in
+        let rest = list_of_parts i ks (All-tail (IsProvablePart c v) k ks h) in
         record {
-          of_traits = (first.of_trait, rest.of_traits);
+          provable = (first.provable, rest.provable);
           stands = more_related c.store ((c.meaning).bound_vars v) ((c.meaning).clause k)
               (list_tree (c.meaning).clause ks) first.stands rest.stands;
         }
 
-    parts_of_list : (ks : List (ClauseKey Key)) → Listed (list_tree (c.meaning).clause ks) → All (IsTraitPart c v) ks
-    parts_of_list [] h = All-nil (IsTraitPart c v)
+    parts_of_list : (ks : List (ClauseKey Key)) → Listed (list_tree (c.meaning).clause ks) → All (IsProvablePart c v) ks
+    parts_of_list [] h = All-nil (IsProvablePart c v)
     parts_of_list (k ∷ ks) h =
         let o = (c.meaning).bound_vars v in
         let t = (c.meaning).clause k in
         let ts = list_tree (c.meaning).clause ks in
-        All-cons (IsTraitPart c v) k ks
-        (record { of_trait = (h.of_traits).0; stands = first_related c.store o t ts h.stands })
-        (parts_of_list ks (record { of_traits = (h.of_traits).1; stands = rest_related c.store o t ts h.stands }))
+        All-cons (IsProvablePart c v) k ks
+        (record { provable = (h.provable).0; stands = first_related c.store o t ts h.stands })
+        (parts_of_list ks (record { provable = (h.provable).1; stands = rest_related c.store o t ts h.stands }))
 
   -- A rule, whose clauses these are.
   module _ (c : Context Key Id Name) (k : Binder Key (ClausesKey Key)) (ks : List (ClauseKey Key))
       (e : (c.meaning).clauses k.value ≡ list_tree (c.meaning).clause ks) where
-    pub rule_of_parts : KnowsRule c k → All (IsTraitPart c k.bound_vars) ks → IsTraitRule c k
+    pub rule_of_parts : KnowsRule c k → All (IsProvablePart c k.bound_vars) ks → IsProvableRule c k
     rule_of_parts h parts =
         let i = (under_known ((c.meaning).bound_vars k.bound_vars) ((c.meaning).clauses k.value) h).0 in
         let l = list_of_parts c k.bound_vars i ks parts in
         let q = subst (λ t. MayBeRelated c.store (under ((c.meaning).bound_vars k.bound_vars) t)) (sym e) l.stands in
         record {
-          of_traits = subst (AreOfTraits c.meaning) (sym e) l.of_traits;
+          provable = subst (AreProvable c.meaning) (sym e) l.provable;
           may = record { is_known = h; taken = q.1; is_in = q.0 };
         }
 
-    pub parts_of_rule : IsTraitRule c k → All (IsTraitPart c k.bound_vars) ks
+    pub parts_of_rule : IsProvableRule c k → All (IsProvablePart c k.bound_vars) ks
     parts_of_rule r = parts_of_list c k.bound_vars ks (record {
-      of_traits = subst (AreOfTraits c.meaning) e r.of_traits;
+      provable = subst (AreProvable c.meaning) e r.provable;
       stands = subst (λ t. MayBeRelated c.store (under ((c.meaning).bound_vars k.bound_vars) t)) e
           ((r.may).is_in, (r.may).taken);
     })

@@ -1,12 +1,15 @@
 pub mod OpenedRules
 pub mod Fits
 pub mod Unbound
+pub mod Said
+pub mod Meeting
+pub mod Fitted
 pub mod Candidates
 pub mod GoingOn
 pub mod Answering
 pub mod OneValue
 pub mod Barred
-pub mod OtherTraits
+pub mod OtherSubjects
 pub mod Searches
 pub mod Meaning
 pub mod Checked

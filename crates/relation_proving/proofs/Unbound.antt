@@ -3,16 +3,14 @@ use Rattle.std.proofs.Common.{◌≡◌, ◌∙◌, ◌⊎◌, ◌<◌, ℕ, zer
 use Rattle.std.proofs.Common.{Option, Some, None, true, false, length, map, arith, ◌==◌}
 use Rattle.std.proofs.lemmas.Bool.{eqb-true, true≢false, false≢true}
 use Rattle.std.specs.Prelude.{IsSome, IsTrue, slice_get}
-use Rattle.relation_terms.specs.declared.predicate.trait_ref.TraitPredicate.{TraitPredicate}
-use Rattle.relation_terms.specs.declared.predicate.kinds.ClauseKind.TheVariants.{Trait}
+use Rattle.relation_terms.specs.declared.predicate.kinds.ClauseKind.{ClauseKind}
 use Rattle.relation_terms.specs.declared.terms.binder.Binder.{Binder}
 use Rattle.relation_terms.specs.declared.terms.keys.ClauseKey.{ClauseKey}
-use Rattle.relation_terms.specs.Clauses.{trait_clause_tree}
 use Rattle.relation_terms.specs.Heads.{BoundKind, Leaf, variable, bound, placeholder, atom, unknown}
 use Rattle.relation_terms.specs.Trees.{Tree, leaf, node, bind, nil, cons, known}
 use Rattle.relation_terms.specs.declared.terms.binder.BoundVariableKind.{BoundVariableKind}
 use Rattle.relation_terms.specs.Meaning.{Meaning, under, bound_kinds, bound_kind_of}
-use Rattle.relation_terms.specs.Predicates.{clause_kind_tree}
+use Rattle.relation_terms.specs.Predicates.{clause_kind_tree, clause_tree}
 use Rattle.relation_terms.proofs.Binders.{under_known}
 use Rattle.relation_terms.proofs.Paths.{kinds_path}
 use Rattle.relation_semantics.specs.Relation.{StaysWithin}
@@ -57,7 +55,7 @@ list_filled : {X Y : Type 0} (f : X → Y) (xs : List X) → (length xs == 0) �
 list_filled f [] e p = true≢false e
 list_filled f (x ∷ xs) e p = cc
 
-module _ {Key Id Name : Type 0} (m : Meaning Key Id Name) (b : Binder Key (TraitPredicate Key Id))
+module _ {Key Id Name : Type 0} (m : Meaning Key Id Name) (b : Binder Key (ClauseKind Key Id Name))
     (vars : List (BoundVariableKind Name)) (e : m.bound_vars b.bound_vars ≡ Some (bound_kinds m vars)) where
   pub binds_nothing : (length vars == 0) ≡ true → BindsNothing m b
   binds_nothing h = e ∙ list_empty (bound_kind_of m) vars h
@@ -65,20 +63,19 @@ module _ {Key Id Name : Type 0} (m : Meaning Key Id Name) (b : Binder Key (Trait
   pub binds_something : (length vars == 0) ≡ false → BindsNothing m b → ⊥
   binds_something h p = list_filled (bound_kind_of m) vars h (sym e ∙ p)
 
-kinds_under : (o p : Option (List BoundKind)) (t u : Tree) → IsSome o → p ≡ Some [] → under o t ≡ under p u → o ≡ Some []
-kinds_under None p t u i q e = absurd (false≢true i)
-kinds_under (Some ks) p t u i q e =
-    ap Some (kinds_path {ks = ks} {ls = []} {t = t} {u = u} (e ∙ ap (λ z. under z u) q))
+kinds_under : (o : Option (List BoundKind)) (t u : Tree) → IsSome o → under o t ≡ bind [] u → o ≡ Some []
+kinds_under None t u i e = absurd (false≢true i)
+kinds_under (Some ks) t u i e = ap Some (kinds_path {ks = ks} {ls = []} {t = t} {u = u} e)
 
-module _ {Key Id Name : Type 0} (m : Meaning Key Id Name) (k : ClauseKey Key) (b : Binder Key (TraitPredicate Key Id))
-    (e : m.clause k ≡ trait_clause_tree m b) (h : IsTrue (known (m.clause k))) where
+module _ {Key Id Name : Type 0} (m : Meaning Key Id Name) (k : ClauseKey Key) (b : Binder Key (ClauseKind Key Id Name))
+    (e : m.clause k ≡ clause_tree m b) (h : IsTrue (known (m.clause k))) where
   -- The interner knows what the binder binds.
   pub list_known : IsSome (m.bound_vars b.bound_vars)
-  list_known = (under_known (m.bound_vars b.bound_vars) (clause_kind_tree m (Trait b.value))
+  list_known = (under_known (m.bound_vars b.bound_vars) (clause_kind_tree m b.value)
       (subst (λ t. IsTrue (known t)) e h)).0
 
-  pub body_found : (found : Option (TraitPredicate Key Id)) → FindsUnbound m b found → FindsBody m k found
-  body_found (Some p) f = e ∙ (ap (λ o. under o (clause_kind_tree m (Trait b.value))) f.0 ∙
-      ap (λ q. bind [] (clause_kind_tree m (Trait q))) (sym f.1))
-  body_found None f = λ c n q. f (kinds_under (m.bound_vars b.bound_vars) (m.bound_vars c.bound_vars)
-      (clause_kind_tree m (Trait b.value)) (clause_kind_tree m (Trait c.value)) list_known n (sym e ∙ q))
+  pub body_found : (found : Option (ClauseKind Key Id Name)) → FindsUnbound m b found → FindsBody m k found
+  body_found (Some p) f = e ∙ (ap (λ o. under o (clause_kind_tree m b.value)) f.0 ∙
+      ap (λ q. bind [] (clause_kind_tree m q)) (sym f.1))
+  body_found None f = λ p q. f (kinds_under (m.bound_vars b.bound_vars) (clause_kind_tree m b.value)
+      (clause_kind_tree m p) list_known (sym e ∙ q))

@@ -1,38 +1,36 @@
 -- What trying a rule for a goal tells, between a context before the call and after it.
 --
 --   MayAsk d k                 a clause may be a goal
+--   MayFit d t                 the same of its tree
 --   IsFirstOrderAt u st        what is recorded is first-order, the current universe being u
 --   IsFirstOrderRule c k r     a rule is first-order, and this is its tree
 --   MayTry c k g u r           what is asked of a rule and a goal where what is told is exact
 --   AsksFor c k g u d r asks   the goal is what the rule gives, if what the rule asks for follows
 --   GivesNone c k g u r        the goal is nothing that the rule gives
+--   AreFirstOrder st a b       two clauses and what is recorded are
+--   ClausesMeet c d e a b      two clauses were made to say one thing
+--   ClausesAreApart st a b     nothing makes two first-order ones one
+--   TellsClauses c d e a b f   what became of two clauses
 --   TellsOpened ..             what is told of a goal and of what an opened rule gives
 --   OpensAsking c d e g r asks   a rule was opened, and what it gives is related with the goal
 --   TellsCandidate c e k g d x   what is told of a rule that was tried
-use Rattle.std.specs.Prelude.{◌≡◌, ℕ, List, [], ◌∷◌, All, IsTrue, None, map}
+use Rattle.std.specs.Prelude.{◌≡◌, ℕ, List, [], ◌∷◌, All, IsTrue, map}
 use Rattle.std.specs.Global.{Vec}
-use Rattle.term_enums.specs.declared.Variance.TheVariants.{Invariant}
 use Rattle.relation_terms.specs.declared.terms.binder.Binder.{Binder}
 use Rattle.relation_terms.specs.declared.terms.keys.ClauseKey.{ClauseKey}
 use Rattle.relation_terms.specs.declared.terms.keys.ClausesKey.{ClausesKey}
 use Rattle.relation_terms.specs.declared.terms.keys.ParamEnvKey.{ParamEnvKey}
-use Rattle.relation_terms.specs.declared.predicate.trait_ref.TraitPredicate.{TraitPredicate}
-use Rattle.relation_terms.specs.declared.predicate.kinds.ClauseKind.TheVariants.{Trait}
-use Rattle.relation_terms.specs.Meaning.{Meaning}
-use Rattle.relation_terms.specs.Predicates.{clause_kind_tree}
 use Rattle.relation_terms.specs.Heads.{BoundKind, bound_sort, VarKind, var_sort, variable}
-use Rattle.relation_terms.specs.Trees.{Tree, leaf, bind, inst, known}
+use Rattle.relation_terms.specs.Heads.{projection, alias_term, arguments}
+use Rattle.relation_terms.specs.Trees.{Tree, leaf, node, bind, nil, cons, inst, known}
 use Rattle.relation_semantics.specs.Bound.{IsWellBound}
 use Rattle.relation_semantics.specs.Contexts.{Context}
 use Rattle.relation_semantics.specs.FirstOrder.{IsFirstOrder, IsFirstOrderStore}
 use Rattle.relation_semantics.specs.Outcomes.{Exact, NoUnifier}
-use Rattle.relation_semantics.specs.Goals.{Relates}
 use Rattle.relation_semantics.specs.Lawful.{items_of}
 use Rattle.relation_semantics.specs.Stores.{Store, IsTermIn, OnlyShrinks}
 use Rattle.relation_solver.specs.Rules.{Rule}
-use Rattle.relation_solver.specs.Traces.{Opens}
-use Rattle.relation_proving.specs.Bodies.{IsBodyOf}
-use Rattle.relation_proving.specs.Fitting.{AreMadeOne, AreToldApart}
+use Rattle.relation_solver.specs.Traces.{Opens, MakesMeet}
 use Rattle.relation_proving.specs.RuleTerms.{IsRuleOf}
 use Rattle.relation_proving.specs.declared.fitting.Fitting.{Fitting}
 use Rattle.relation_proving.specs.declared.fitting.Fitting.TheVariants.{Fits, Apart as ToldApart, Left}
@@ -53,15 +51,31 @@ AreVariablesFor (k ∷ ks) (x ∷ xs) =
 AreVariablesFor [] (x ∷ xs) = ⊥
 AreVariablesFor (k ∷ ks) [] = ⊥
 
--- A clause whose binder binds nothing, over a first-order body.
+-- A first-order form; or that an alias, whose arguments are first-order, comes to a first-order term.
+abbrev pub IsFirstOrderBody : Tree → Type 0
+IsFirstOrderBody (node projection (cons (node (alias_term k d) ts) (cons t nil))) =
+    IsFirstOrder (node arguments ts) × IsFirstOrder t
+IsFirstOrderBody t = IsFirstOrder t
+
+-- A clause whose binder binds nothing, over such a body.
 abbrev pub IsFirstOrderClause : Tree → Type 0
-IsFirstOrderClause (bind [] t) = IsFirstOrder t
+IsFirstOrderClause (bind [] t) = IsFirstOrderBody t
 IsFirstOrderClause t = ⊥
 
 -- What is recorded is first-order, and this is the current universe.
 pub record IsFirstOrderAt (u : ℕ) (st : Store) : Type 0 where
   pub bindings : IsFirstOrderStore st
   pub universe : st.universe ≡ u
+
+-- Two clauses and what is recorded are first-order.
+pub record AreFirstOrder (st : Store) (a b : Tree) : Type 0 where
+  pub left : IsFirstOrderClause a
+  pub right : IsFirstOrderClause b
+  pub bindings : IsFirstOrderStore st
+
+-- Nothing unifies two first-order clauses in a first-order record.
+abbrev pub ClausesAreApart : Store → Tree → Tree → Type 0
+ClausesAreApart st a b = AreFirstOrder st a b → NoUnifier st a b
 
 module _ {Key Id Name : Type 0} where
   -- A clause may be a goal: it is known, is the context's, and its binders bind by their lists.
@@ -70,23 +84,36 @@ module _ {Key Id Name : Type 0} where
     pub is_in : IsTermIn d.store ((d.meaning).clause k)
     pub taken : IsWellBound ((d.meaning).clause k)
 
-  -- Two clauses say these of traits, under binders that bind nothing.
-  pub record Say (m : Meaning Key Id Name) (g given : ClauseKey Key) (q p : TraitPredicate Key Id) : Type 0 where
-    pub goal : IsBodyOf m g q
-    pub gives : IsBodyOf m given p
+  -- The same of a clause as a tree: it may be made to say what another says.
+  pub record MayFit (d : Context Key Id Name) (t : Tree) : Type 0 where
+    pub is_known : IsTrue (known t)
+    pub is_in : IsTermIn d.store t
+    pub taken : IsWellBound t
 
-  abbrev pub trait_tree : Meaning Key Id Name → TraitPredicate Key Id → Tree
-  trait_tree m p = clause_kind_tree m (Trait p)
+  -- Between two contexts, in an environment: what became of two clauses.
+  module _ (c d : Context Key Id Name) (e : ParamEnvKey Key) (a b : Tree) where
+    -- They were made to say one thing, and nothing is left to ask: what satisfies the record after makes them so, and
+    -- satisfied the record before. Of first-order ones in a first-order record just the solutions that unify them are
+    -- left.
+    pub record ClausesMeet : Type 0 where
+      pub meet : MakesMeet (items_of c.meaning) d.store [] ((c.meaning).param_env e) a b
+      pub shrinks : OnlyShrinks c.store d.store
+      pub exact : AreFirstOrder c.store a b → Exact c.store d.store a b
+      pub first_order : AreFirstOrder c.store a b → IsFirstOrderStore d.store
+      pub same_universe : AreFirstOrder c.store a b → (d.store).universe ≡ (c.store).universe
 
-  -- Of a goal and what an opened rule gives: what both say was made one, and these are what the rule asks for; or
-  -- nothing makes it one.
+    abbrev pub TellsClauses : Fitting → Type 0
+    TellsClauses Fits = ClausesMeet
+    TellsClauses ToldApart = ClausesAreApart c.store a b
+    TellsClauses Left = Unit {0}
+
+  -- Of a goal and what an opened rule gives: they were made to say one thing, and these are what the rule asks for; or
+  -- nothing makes them one.
   module _ (c d : Context Key Id Name) (e : ParamEnvKey Key) (g given : ClauseKey Key) (asks : List (ClauseKey Key))
     where
       abbrev pub TellsOpened : Candidate Key → Type 0
-      TellsOpened (Asks v) = (v.items ≡ asks) × ((q : TraitPredicate Key Id) × (p : TraitPredicate Key Id) ×
-          Say c.meaning g given q p × AreMadeOne c d None trait_tree e q p)
-      TellsOpened Apart = (q : TraitPredicate Key Id) × (p : TraitPredicate Key Id) × Say c.meaning g given q p ×
-          AreToldApart c d None trait_tree e q p
+      TellsOpened (Asks v) = (v.items ≡ asks) × ClausesMeet c d e ((c.meaning).clause g) ((c.meaning).clause given)
+      TellsOpened Apart = ClausesAreApart c.store ((c.meaning).clause g) ((c.meaning).clause given)
       TellsOpened Unclear = Unit {0}
 
   -- A rule as a tree, without variables. With variables for what it binds each of its clauses is first-order, under a
@@ -120,14 +147,14 @@ module _ {Key Id Name : Type 0} where
       pub opens : Opens u c.store opened r vars
       pub none : NoUnifier opened ((c.meaning).clause g) (inst vars 0 r.gives)
 
-  -- A rule was opened, and what satisfies the record then relates the goal and what it gives; these are what it asks
-  -- for.
+  -- A rule was opened, and what satisfies the record then makes the goal and what it gives say one thing; these are what
+  -- it asks for.
   pub record OpensAsking (c d : Context Key Id Name) (e : ParamEnvKey Key) (g : ClauseKey Key) (r : Rule)
       (asks : List (ClauseKey Key)) : Type 0 where
     pub vars : List Tree
     pub opened : Store
     pub opens : Opens (c.store).universe c.store opened r vars
-    pub relates : Relates (items_of c.meaning) d.store [] ((c.meaning).param_env e) Invariant ((c.meaning).clause g)
+    pub relates : MakesMeet (items_of c.meaning) d.store [] ((c.meaning).param_env e) ((c.meaning).clause g)
         (inst vars 0 r.gives)
     pub shrinks : OnlyShrinks opened d.store
     pub asks_are : map (d.meaning).clause asks ≡ map (inst vars 0) r.asks

@@ -1,7 +1,7 @@
 pub mod RuleTerms
 pub mod Fitting
+pub mod Subjects
 pub mod Bodies
-pub mod Traits
 pub mod Candidates
 pub mod Barring
 pub mod Telling

@@ -9,10 +9,9 @@ ghost use Rattle.relation_proving.specs.Candidates.{MayAsk};
 ghost use Rattle.relation_proving.specs.RuleTerms.{MayUse};
 
 use crate::opening::RuleOf;
-use crate::reading::{gives_another_trait, trait_body};
+use crate::reading::{args_of_both, clause_body, gives_another};
 use fast_reject::DeepRejectCtxt;
 use relation_semantics::infer_ctxt::InferCtxtLike;
-use relation_terms::predicate::as_trait_clause;
 use relation_terms::terms::{Clause, GenericArg, GenericArgKind, Interner, Ty};
 
 // Whether a goal's type, as it is read by what is recorded, has another form than what a rule gives. Parameters in the
@@ -76,7 +75,7 @@ fn args_bar<C: InferCtxtLike>(
     false
 }
 
-// Whether what a rule gives has another form than a goal, where both say something of a trait.
+// Whether what a rule gives has another form than a goal, where each says something of a trait or an item.
 fn clauses_bar<C: InferCtxtLike>(
     ctx: &C,
     goal: &Clause<C::Interner>,
@@ -89,17 +88,16 @@ fn clauses_bar<C: InferCtxtLike>(
         IsTrue result → BarsClause (C.state ctx.now) (m.clause goal.now) (m.clause given.now) }
 {
     let cx = ctx.cx();
-    let Some(goal) = trait_body(cx, goal) else {
+    let Some(goal) = clause_body(cx, goal) else {
         return false;
     };
-    let list = cx.args(&goal.trait_ref.args);
-    match as_trait_clause(cx, given) {
-        Some(form) => {
-            let others = cx.args(&form.value.trait_ref.args);
-            args_bar(ctx, list, others)
-        }
-        None => false,
-    }
+    let form = cx.clause_kind(given);
+    let Some((left, right)) = args_of_both(&goal, &form.value) else {
+        return false;
+    };
+    let list = cx.args(&left);
+    let others = cx.args(&right);
+    args_bar(ctx, list, others)
 }
 
 // Whether the first clause of a rule has another form than a goal.
@@ -119,8 +117,8 @@ fn gives_another_form<C: InferCtxtLike>(
     }
 }
 
-/// Whether a rule is passed over for a goal: it gives another trait, or a type of another form. The goal's types are
-/// read by what is recorded.
+/// Whether a rule is passed over for a goal: it gives another trait or item, or a type of another form. The goal's types
+/// are read by what is recorded.
 pub(crate) fn is_passed_over<C: InferCtxtLike>(
     ctx: &C,
     rule: &RuleOf<C::Interner>,
@@ -131,7 +129,7 @@ pub(crate) fn is_passed_over<C: InferCtxtLike>(
     requires goal { MayAsk (C.state ctx.now) goal.now }
     ensures { IsTrue result → NeverGives (C.state ctx.now) rule.now goal.now }
 {
-    if gives_another_trait(ctx.cx(), rule, goal) {
+    if gives_another(ctx.cx(), rule, goal) {
         return true;
     }
     gives_another_form(ctx, rule, goal)

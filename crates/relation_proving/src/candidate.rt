@@ -1,14 +1,13 @@
 //! Whether a goal may follow by a rule, and what that asks for.
-ghost use Rattle.std.specs.Prelude.{◌≡◌, IfOk, IfSome};
+ghost use Rattle.std.specs.Prelude.{◌≡◌, IfOk};
 ghost use Rattle.relation_terms.specs.Meaning.{Extends};
 ghost use Rattle.relation_semantics.specs.Contexts.{KnowsEnv};
 ghost use Rattle.relation_semantics.specs.Steps.{IsLater};
-ghost use Rattle.relation_proving.specs.Candidates.{candidate_by, MayAsk, Say, TellsOpened, TellsCandidate};
+ghost use Rattle.relation_proving.specs.Candidates.{candidate_by, MayAsk, TellsOpened, TellsCandidate};
 ghost use Rattle.relation_proving.specs.RuleTerms.{MayUse};
 
-use crate::fitting::{Fitting, fit};
+use crate::fitting::{Fitting, fit_clauses};
 use crate::opening::{RuleOf, open_rule};
-use crate::reading::{TraitPredicateOf, trait_body};
 use relation_folds::error::RelateResult;
 use relation_semantics::infer_ctxt::InferCtxtLike;
 use relation_terms::terms::{Clause, ClauseKey, Interner, Keys, ParamEnv, Span};
@@ -20,8 +19,9 @@ pub enum Candidate<X> {
     Asks(Vec<ClauseKey<X>>),
     /// The goal is nothing that the rule gives.
     Apart,
-    /// That isn't told: the rule has no clause, the goal or what the rule gives is no clause of a trait whose binder
-    /// binds nothing, or goals were left where the two were related.
+    /// That isn't told: the rule has no clause, the goal or what the rule gives says something else than that a trait is
+    /// implemented or to what an alias comes, or under a binder that binds something; two say of one item to what it
+    /// comes, which is none of a trait, or has not as many arguments; or goals were left where the two were related.
     Unclear,
 }
 
@@ -37,22 +37,6 @@ fn candidate_of<X: Copy>(fitting: Fitting, asks: Vec<ClauseKey<X>>) -> Candidate
         Fitting::Apart => Candidate::Apart,
         Fitting::Left => Candidate::Unclear,
     }
-}
-
-// What a goal and what a rule gives say of traits, where both are such clauses and their binders bind nothing.
-fn bodies<C: InferCtxtLike>(
-    ctx: &C,
-    goal: &Clause<C::Interner>,
-    given: &Clause<C::Interner>,
-) -> Option<(TraitPredicateOf<C::Interner>, TraitPredicateOf<C::Interner>)>
-    requires goal { MayAsk (C.state ctx.now) goal.now }
-    requires given { MayAsk (C.state ctx.now) given.now }
-    ensures { IfSome result (λ p. Say (C.state ctx.now).meaning goal.now given.now p.0 p.1) }
-{
-    let cx = ctx.cx();
-    let goal = trait_body(cx, goal)?;
-    let given = trait_body(cx, given)?;
-    Some((goal, given))
 }
 
 // Relates a goal and what an opened rule gives, and answers what it asks for.
@@ -74,17 +58,14 @@ fn try_opened<C: InferCtxtLike>(
     ensures lawful { (C.state ctx.new).lawful }
     ensures grown { Extends (C.state ctx.old).meaning (C.state ctx.new).meaning }
 {
-    let Some((goal, given)) = bodies(&*ctx, goal, given) else {
-        return Ok(Candidate::Unclear);
-    };
-    let fitting = fit(ctx, param_env, goal, given, span)?;
+    let fitting = fit_clauses(ctx, param_env, goal, given, span)?;
     let mut list = Vec::new(ctx.cx().alloc());
     list.extend_from_slice(asks)?;
     Ok(candidate_of(fitting, list))
 }
 
-/// Tries a rule for a goal: opens it, and relates the goal and what it gives. What is recorded then is left, also where
-/// the rule does not serve.
+/// Tries a rule for a goal: opens it, and relates the goal and what it gives; of two that say to what an alias of one item
+/// comes the aliases' arguments and what these come to. What is recorded then is left, also where the rule does not serve.
 ///
 /// The interner has to know the environment, the rule and the goal, whose binders bind by their lists; their variables
 /// and placeholders are the context's. After `Asks` the goal is what the rule gives, exactly, where all is first-order;

@@ -5,6 +5,7 @@
 mod barring;
 pub mod candidate;
 pub mod checking;
+mod comparing;
 pub mod fitting;
 pub mod opening;
 pub mod proving;

@@ -28,15 +28,15 @@ use relation_terms::terms::{Clause, ParamEnv, Span};
 /// follows by one rule alone and no other is left, and where it follows by one at all if no variable but of regions
 /// stands in it; the record is then what the first of these leaves. Where more than one rule is left it is
 /// `Maybe(Ambiguous)`, and so it is where a binder that binds something, another predicate than that a trait is
-/// implemented, or a goal that relating leaves stands in the way; where the depth is spent, `Maybe(Depth)`, which
-/// counts first.
+/// implemented or to what an alias comes, or a goal that relating leaves stands in the way; where the depth is spent,
+/// `Maybe(Depth)`, which counts first. An alias stands for itself, but where a goal or a rule says to what it comes.
 ///
 /// The interner has to know the environment, the rules and the goal, whose binders bind by their lists; their variables
 /// and placeholders are the context's. Where no variable stands in a rule, each assignment that satisfies what is
-/// recorded after `Yes` makes the goal derived, by the relation at `Invariant`. Where besides the goal, the rules and
-/// what is recorded are first-order, `Yes` says that up to erasure each solution which is left makes the goal follow,
-/// and that none was lost under which it follows; and `No` that under no solution it does, at no depth. After `No` and
-/// `Maybe` what is recorded is what was.
+/// recorded after `Yes` makes the goal derived, by the relation at `Invariant`: of an alias and what it comes to by that of
+/// both. Where besides the goal, the rules and what is recorded are first-order, but for an alias that comes to something,
+/// `Yes` says that up to erasure each solution which is left makes the goal follow, and that none was lost under which it
+/// follows; and `No` that under no solution it does, at no depth. After `No` and `Maybe` what is recorded is what was.
 ///
 /// # Errors
 /// `Budget` where no instantiation is left, and `Memory` where a growth was refused. More may be recorded then; all

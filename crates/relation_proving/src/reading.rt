@@ -1,25 +1,25 @@
-//! Clauses whose binders bind nothing, those that come to one thing, and of which traits clauses are.
-ghost use Rattle.std.specs.Prelude.{◌≡◌, IfSome, IsSome, IsTrue, not};
+//! Clauses whose binders bind nothing, those that come to one thing, and of which traits and items clauses are.
+ghost use Rattle.std.specs.Prelude.{◌≡◌, IfSome, IsSome, IsTrue, Some, not};
 ghost use Rattle.relation_terms.specs.Trees.{known};
 ghost use Rattle.relation_folds.specs.Visits.{non_region_infer_stands};
 ghost use Rattle.relation_proving.specs.Bodies.{FindsBody, FindsUnbound};
 ghost use Rattle.relation_proving.specs.RuleTerms.{rule_tree};
-ghost use Rattle.relation_proving.specs.Traits.{IsOfTraitOf, IsOfAnother, AreOfTwo, GivesAnother};
+ghost use Rattle.relation_proving.specs.Subjects.{args_of as arguments_of, AreOfTwo, GivesAnother};
 
 use crate::opening::RuleOf;
 use relation_folds::visit::has_non_region_infer;
 use relation_semantics::infer_ctxt::InferCtxtLike;
-use relation_terms::predicate::{TraitPredicate, as_trait_clause};
-use relation_terms::terms::{Binder, Clause, Interner, Keys, TraitId};
+use relation_terms::predicate::{ClauseForm, ClauseKind, ProjectionPredicate};
+use relation_terms::terms::{ArgsKey, Clause, Interner, Keys};
 
-/// What an interner's clause says of a trait.
-pub type TraitPredicateOf<I> = TraitPredicate<<I as Keys>::Key, <I as Keys>::Id>;
+/// What an interner's clause says.
+pub type ClauseKindOf<I> = ClauseKind<<I as Keys>::Key, <I as Keys>::Id, <I as Keys>::Name>;
+
+/// What it says of an item of a trait, or of another alias: to what it comes.
+pub type ProjectionPredicateOf<I> = ProjectionPredicate<<I as Keys>::Key, <I as Keys>::Id>;
 
 // The body of a binder, exactly where it binds nothing.
-fn unbound<I: Interner>(
-    cx: &I,
-    form: Binder<I::Key, TraitPredicateOf<I>>,
-) -> Option<TraitPredicateOf<I>>
+fn unbound<I: Interner>(cx: &I, form: ClauseForm<I>) -> Option<ClauseKindOf<I>>
     requires { IsSome ((I.meaning cx.now).bound_vars form.bound_vars) }
     ensures { FindsUnbound (I.meaning cx.now) form result }
 {
@@ -30,16 +30,14 @@ fn unbound<I: Interner>(
     }
 }
 
-/// What a clause of a trait says whose binder binds nothing, and `None` exactly where it is no such clause. The
-/// interner has to know the clause.
-pub fn trait_body<I: Interner>(cx: &I, clause: &Clause<I>) -> Option<TraitPredicateOf<I>>
+/// What a clause says whose binder binds nothing, and `None` exactly where it binds something. The interner has to know
+/// the clause.
+pub fn clause_body<I: Interner>(cx: &I, clause: &Clause<I>) -> Option<ClauseKindOf<I>>
     requires { IsTrue (known ((I.meaning cx.now).clause clause.now)) }
     ensures { FindsBody (I.meaning cx.now) clause.now result }
 {
-    match as_trait_clause(cx, clause) {
-        Some(form) => unbound(cx, form),
-        None => None,
-    }
+    let form = cx.clause_kind(clause);
+    unbound(cx, form)
 }
 
 /// Whether no variable but of regions stands in a clause, which the interner knows: so all assignments make one of it, up
@@ -51,48 +49,64 @@ pub(crate) fn comes_to_one<C: InferCtxtLike>(ctx: &C, clause: &Clause<C::Interne
     !has_non_region_infer(ctx.cx(), clause)
 }
 
-// The trait that a clause says something of, if it does of one.
-fn trait_of<I: Interner>(cx: &I, clause: &Clause<I>) -> Option<TraitId<I::Id>>
-    requires { IsTrue (known ((I.meaning cx.now).clause clause.now)) }
-    ensures { IfSome result (λ t. IsOfTraitOf (I.meaning cx.now) clause.now t.0) }
+// The arguments of the trait or the item that a clause says something of.
+fn args_of<X: Copy, D: Copy, N: Copy>(kind: &ClauseKind<X, D, N>) -> Option<ArgsKey<X>>
+    ensures { result ≡ arguments_of kind.now }
 {
-    match as_trait_clause(cx, clause) {
-        Some(form) => Some(form.value.trait_ref.def_id),
-        None => None,
+    match kind {
+        ClauseKind::Trait(of) => Some(of.trait_ref.args),
+        ClauseKind::Projection(of) => Some(of.projection_term.args),
+        _ => None,
     }
 }
 
-// Whether a clause says something of another trait than this one.
-fn is_of_another<I: Interner>(cx: &I, clause: &Clause<I>, of: TraitId<I::Id>) -> bool
-    requires { IsTrue (known ((I.meaning cx.now).clause clause.now)) }
-    ensures { IsTrue result → IsOfAnother (I.meaning cx.now) clause.now of.0 }
+/// The same of two clauses.
+pub(crate) fn args_of_both<X: Copy, D: Copy, N: Copy>(
+    first: &ClauseKind<X, D, N>,
+    second: &ClauseKind<X, D, N>,
+) -> Option<(ArgsKey<X>, ArgsKey<X>)>
+    ensures first { IfSome result (λ p. arguments_of first.now ≡ Some p.0) }
+    ensures second { IfSome result (λ p. arguments_of second.now ≡ Some p.1) }
 {
-    match trait_of(cx, clause) {
-        Some(other) => other.0 != of.0,
-        None => false,
-    }
+    let left = args_of(first)?;
+    let right = args_of(second)?;
+    Some((left, right))
 }
 
-// Whether two clauses say something of traits, and not of one.
-fn are_of_two<I: Interner>(cx: &I, first: &Clause<I>, second: &Clause<I>) -> bool
-    requires first_known { IsTrue (known ((I.meaning cx.now).clause first.now)) }
-    requires second_known { IsTrue (known ((I.meaning cx.now).clause second.now)) }
+/// Whether two clauses say something of two traits, of two items, or of a trait and an item.
+pub(crate) fn are_of_two<I: Interner>(
+    cx: &I,
+    first: &ClauseKindOf<I>,
+    second: &ClauseKindOf<I>,
+) -> bool
     ensures { IsTrue result → AreOfTwo (I.meaning cx.now) first.now second.now }
 {
-    match trait_of(cx, first) {
-        Some(of) => is_of_another(cx, second, of),
-        None => false,
+    match (first, second) {
+        (ClauseKind::Trait(a), ClauseKind::Trait(b)) => {
+            a.trait_ref.def_id.0 != b.trait_ref.def_id.0
+        }
+        (ClauseKind::Projection(a), ClauseKind::Projection(b)) => {
+            a.projection_term.def_id().0 != b.projection_term.def_id().0
+        }
+        (ClauseKind::Trait(_), ClauseKind::Projection(_)) => true,
+        (ClauseKind::Projection(_), ClauseKind::Trait(_)) => true,
+        _ => false,
     }
 }
 
-/// Whether the first clause of a rule says something of a trait, and a goal of another. The interner has to know both.
-pub(crate) fn gives_another_trait<I: Interner>(cx: &I, rule: &RuleOf<I>, goal: &Clause<I>) -> bool
+/// Whether the first clause of a rule says something of a trait or an item, and a goal of another. The interner has to
+/// know both.
+pub(crate) fn gives_another<I: Interner>(cx: &I, rule: &RuleOf<I>, goal: &Clause<I>) -> bool
     requires rule_known { IsTrue (known (rule_tree (I.meaning cx.now) rule.now)) }
     requires goal_known { IsTrue (known ((I.meaning cx.now).clause goal.now)) }
     ensures { IsTrue result → GivesAnother (I.meaning cx.now) rule.now goal.now }
 {
     match cx.clauses(&rule.value).split_first() {
-        Some((given, _)) => are_of_two(cx, given, goal),
+        Some((given, _)) => {
+            let gives = cx.clause_kind(given);
+            let asks = cx.clause_kind(goal);
+            are_of_two(cx, &asks.value, &gives.value)
+        }
         None => false,
     }
 }

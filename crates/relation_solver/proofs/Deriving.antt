@@ -1,9 +1,8 @@
 -- What a solver proves is derived.
 use Rattle.std.proofs.Common.{ℕ, ◌≤◌, le_trans, List, [], ◌∷◌, refl, ap, subst, map, All}
-use Rattle.term_enums.specs.declared.Variance.TheVariants.{Invariant}
 use Rattle.relation_terms.specs.Trees.{Tree, Assign, apply}
 use Rattle.relation_terms.specs.Erasure.{erase}
-use Rattle.relation_semantics.specs.Relation.{Items, Interpretation, Rel, at}
+use Rattle.relation_semantics.specs.Relation.{Items, Interpretation}
 use Rattle.relation_semantics.specs.Steps.{AllNamable}
 use Rattle.relation_semantics.specs.Stores.{Store, Satisfies, IsNamable}
 use Rattle.relation_semantics.specs.Goals.{Goal, Holds}
@@ -11,7 +10,8 @@ use Rattle.relation_semantics.specs.FirstOrder.{IsErasedSolution}
 use Rattle.relation_semantics.proofs.Standing.{namable_mono}
 use Rattle.relation_semantics.proofs.Trees.{Leaves_map}
 use Rattle.relation_semantics.proofs.Values.{variables_fit}
-use Rattle.relation_solver.specs.Rules.{AreClosed, Rule, Asked, one, all, Derives, derived_by, all_derived, next_derived}
+use Rattle.relation_solver.specs.Rules.{AreClosed, Rule, Asked, one, all, Meets, Derives, derived_by, all_derived}
+use Rattle.relation_solver.specs.Rules.{next_derived}
 use Rattle.relation_solver.specs.Traces.{Without, first, later, Proves, took, none_asked, one_of}
 use Rattle.relation_solver.specs.Solving.{ProofsDerive}
 use Rattle.relation_solver.proofs.Alike.{images_without}
@@ -59,7 +59,7 @@ module _ (c : Items) (e : Tree) (u : ℕ) (held : List Tree) (rules : List Rule)
         derived_by r xs (apply s g) i (variables_fit before opened s v r.binds vars at_opening.assigns o.makes.are_new)
             (names_more v u l xs (variables_namable before opened s v r.binds vars at_opening.assigns o.makes.are_new))
             (unshadowed v held closed middle r vars o stands s (erased w middle s p.0))
-            (subst (λ t. Rel c w e (at Invariant) (apply s g) t) (opened_value s vars xs r.gives o.gives_closed refl)
+            (subst (λ t. Meets c w e (apply s g) t) (opened_value s vars xs r.gives o.gives_closed refl)
             (f w s p.0 holds))
             (subst (λ z. Derives c w e u held rules (all z)) (opened_values s vars xs r.asks o.asks_closed refl) p.1),
       )

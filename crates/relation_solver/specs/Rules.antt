@@ -6,10 +6,11 @@
 --   Follows u held rules q     what is asked follows from rules, by values that universe u can name
 --   given t                    what the environment has, as a rule
 --   FollowsIn u held rules q   what is asked follows from what the environment has and from rules
---   Derives c w e u held rules q   the same, by the relation at invariance in an environment in place of erasure
+--   Meets c w e a b            two clauses say one thing in an environment: they are related at invariance
+--   Derives c w e u held rules q   the same as Follows, where clauses meet in place of erasure
 use Rattle.std.specs.Prelude.{◌≡◌, ℕ, List, [], ◌∷◌, ◌++◌, All, Contains, map}
-use Rattle.relation_terms.specs.Heads.{BoundKind}
-use Rattle.relation_terms.specs.Trees.{Tree, inst, Leaves}
+use Rattle.relation_terms.specs.Heads.{BoundKind, projection}
+use Rattle.relation_terms.specs.Trees.{Tree, node, bind, nil, cons, inst, Leaves}
 use Rattle.relation_terms.specs.Erasure.{erase}
 use Rattle.term_enums.specs.declared.Variance.TheVariants.{Invariant}
 use Rattle.relation_semantics.specs.Relation.{Items, Interpretation, Rel, at, FitKinds, IsValueLeaf}
@@ -57,11 +58,18 @@ given t = record { binds = []; gives = t; asks = []; shadowed_by = [] }
 abbrev pub FollowsIn : ℕ → List Tree → List Rule → Asked → Type 0
 FollowsIn u held rules q = Follows u held (map given held ++ rules) q
 
--- It follows from rules where a goal and what a rule gives are related, in an environment, under an interpretation.
+-- Two clauses say one thing, in an environment, under an interpretation: they are related at invariance; or, since what
+-- an alias comes to is no form that is related by its parts, the aliases are and what they come to.
+pub data Meets (c : Items) (w : Interpretation) (e : Tree) : Tree → Tree → Type 0 where
+  related : {a b : Tree} → Rel c w e (at Invariant) a b → Meets c w e a b
+  projections : {a b t u : Tree} → Rel c w e (at Invariant) a b → Rel c w e (at Invariant) t u →
+      Meets c w e (bind [] (node projection (cons a (cons t nil)))) (bind [] (node projection (cons b (cons u nil))))
+
+-- It follows from rules where a goal and what a rule gives say one thing.
 pub data Derives (c : Items) (w : Interpretation) (e : Tree) (u : ℕ) (held : List Tree) (rules : List Rule) :
     Asked → Type 0 where
   derived_by : (r : Rule) (xs : List Tree) (g : Tree) → Contains rules r → FitKinds r.binds xs → AllNamable u xs →
-      (IsShadowed held r xs → ⊥) → Rel c w e (at Invariant) g (inst xs 0 r.gives) →
+      (IsShadowed held r xs → ⊥) → Meets c w e g (inst xs 0 r.gives) →
       Derives c w e u held rules (all (map (inst xs 0) r.asks)) → Derives c w e u held rules (one g)
   all_derived : Derives c w e u held rules (all [])
   next_derived : (g : Tree) (gs : List Tree) → Derives c w e u held rules (one g) →

@@ -7,19 +7,19 @@
 --   StandsFirst held st r xs    or has it under none
 --   Did u held rules st q a     a solver that was asked q in the record st answered a, by these calls and no others
 --   FollowsBy u held rules st st' r g   a goal followed by a rule: st' is recorded then
+--   MakesMeet c st gs e a b     what satisfies st, and makes the goals gs true, makes two clauses say one thing
 --   Proves c e u held rules gs st q st'   a solver that was asked q in st said yes: st' is recorded then, and the goals
 --                                         gs are left
 use Rattle.std.specs.Prelude.{◌≡◌, ℕ, ◌≤◌, List, [], ◌∷◌, All, Contains, map}
 use Rattle.relation_terms.specs.Trees.{Tree, Assign, apply, inst, Leaves}
 use Rattle.relation_terms.specs.Erasure.{erase}
-use Rattle.term_enums.specs.declared.Variance.TheVariants.{Invariant}
-use Rattle.relation_semantics.specs.Relation.{Items, FitKinds, IsValueLeaf}
-use Rattle.relation_semantics.specs.Stores.{Store, IsSound, IsAssignment, InContext, OnlyShrinks}
-use Rattle.relation_semantics.specs.Goals.{Goal, Relates}
+use Rattle.relation_semantics.specs.Relation.{Items, Interpretation, FitKinds, IsValueLeaf}
+use Rattle.relation_semantics.specs.Stores.{Store, IsSound, IsAssignment, InContext, OnlyShrinks, Satisfies}
+use Rattle.relation_semantics.specs.Goals.{Goal, Holds}
 use Rattle.relation_semantics.specs.FirstOrder.{IsErasedSolution, Unifies}
 use Rattle.relation_semantics.specs.Steps.{AllNamable, MakesVariables, IsLater}
 use Rattle.relation_semantics.specs.Outcomes.{Exact, NoUnifier}
-use Rattle.relation_solver.specs.Rules.{AreClosed, Rule, Asked, one, all}
+use Rattle.relation_solver.specs.Rules.{AreClosed, Rule, Asked, one, all, Meets}
 
 -- A list without one of its elements.
 pub data Without {T : Type 0} (x : T) : List T → List T → Type 0 where
@@ -124,12 +124,17 @@ pub record FollowsBy (u : ℕ) (held : List Tree) (rules : List Rule) (before af
   pub takes : Takes u held before middle r vars g
   pub asks : Did u held rules middle (goals (map (inst vars 0) r.asks)) (yes after)
 
--- The calls by which a solver says yes, where goals may be left: what it relates is related in an environment, at
--- invariance, under what is recorded then and these goals. No rule is opened in a universe above u.
+-- What satisfies a record, and makes the goals true, makes two clauses say one thing in an environment.
+abbrev pub MakesMeet : Items → Store → List Goal → Tree → Tree → Tree → Type 0
+MakesMeet c st left e a b = (w : Interpretation) (s : Assign) → Satisfies w st s → All (Holds c w s) left →
+    Meets c w e (apply s a) (apply s b)
+
+-- The calls by which a solver says yes, where goals may be left: a goal and what a rule gives say one thing in an
+-- environment, under what is recorded then and these goals. No rule is opened in a universe above u.
 pub data Proves (c : Items) (e : Tree) (u : ℕ) (held : List Tree) (rules : List Rule) (left : List Goal) :
     Store → Asked → Store → Type 0 where
   took : (before opened middle after : Store) (v : ℕ) (r : Rule) (vars : List Tree) (g : Tree) → Contains rules r →
-      v ≤ u → Opens v before opened r vars → Relates c middle left e Invariant g (inst vars 0 r.gives) →
+      v ≤ u → Opens v before opened r vars → MakesMeet c middle left e g (inst vars 0 r.gives) →
       OnlyShrinks opened middle → StandsFirst held middle r vars →
       Proves c e u held rules left middle (all (map (inst vars 0) r.asks)) after →
       Proves c e u held rules left before (one g) after

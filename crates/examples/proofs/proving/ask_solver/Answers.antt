@@ -1,7 +1,7 @@
 -- What the tests say meets what the solver asks for.
 use Rattle.std.proofs.Common.{rules, IsTrue}
 use Rattle.std.proofs.lemmas.List.Elements.{All-weaker}
-use Rattle.relation_proving.specs.Checking.{IsTraitRule}
+use Rattle.relation_proving.specs.Checking.{IsProvableRule}
 use Rattle.relation_proving.specs.RuleTerms.{MayUse}
 use Rattle.examples.proofs.proving.ask_solver.Goals as goal
 
@@ -12,7 +12,7 @@ prove-requires-clause-may g c =
     record {
       lawful = c.requires.lawful;
       env_known = c.requires.env_known;
-      rules = All-weaker (IsTraitRule s) (MayUse s) (λ k r. r.may) c.args.rules.now (c.rules_may_be_used.ensures.0 are);
+      rules = All-weaker (IsProvableRule s) (MayUse s) (λ k r. r.may) c.args.rules.now (c.rules_may_be_used.ensures.0 are);
     }
 
 pub prove-requires-clause-goal : goal.prove-requires-clause-goal

@@ -2,7 +2,7 @@ use Rattle.std.proofs.Common.{◌≡◌, sym, subst, IsTrue}
 use Rattle.relation_terms.specs.Interning.{Sorted}
 use Rattle.relation_terms.specs.Trees.{known, list_tree}
 use Rattle.relation_proving.proofs.Barred.{listed_never}
-use Rattle.relation_proving.proofs.OtherTraits.{first_known, given_known}
+use Rattle.relation_proving.proofs.OtherSubjects.{first_known, given_known}
 use Rattle.relation_proving.proofs.barring.gives_another_form.Goals as goal
 
 pub clauses-requires : goal.clauses-requires

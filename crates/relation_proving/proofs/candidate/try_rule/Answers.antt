@@ -33,8 +33,6 @@ returns-clause-tells g c =
     c.in_ok-clauses.clauses.items c.in-Some.asks.now (sym c.deref.ensures.value ∙ c.in-Some.ensures.cases.0)
     c.args.param_env c.in_ok-clauses.ensures.opens c.in_ok-clauses.ensures.grows.extends c.try_opened.ensures.grown
     c.try_opened.ensures.later c.requires.goal.is_known c.requires.env_known
-    (ask_later (g.C.InferCtxtLike.state c.args.ctx.now) (g.C.InferCtxtLike.state c.open_rule.new.ctx)
-    c.in_ok-clauses.ensures.grows.extends c.in_ok-clauses.ensures.later c.args.goal.now c.requires.goal)
     c.try_opened.result c.try_opened.ensures.tells
 
 pub open_rule-requires : goal.open_rule-requires

@@ -1,26 +1,48 @@
 -- A goal, by what the interner of the context knows.
-use Rattle.std.proofs.Common.{sym, subst, IsTrue, Some, None}
+use Rattle.std.proofs.Common.{◌≡◌, sym, subst, IsTrue}
+use Rattle.relation_terms.specs.declared.predicate.kinds.ClauseKind.TheVariants.{Trait, Projection}
+use Rattle.relation_terms.specs.Predicates.{clause_tree}
 use Rattle.relation_terms.specs.Trees.{known}
-use Rattle.relation_terms.specs.Clauses.{FindsTrait}
-use Rattle.relation_proving.proofs.Checked.{goal_passed, no_goal}
+use Rattle.relation_proving.proofs.Checked.{goal_known, goal_passed, no_goal}
 use Rattle.relation_proving.proofs.checking.goal_may_be_asked.Goals as goal
 
-pub as_trait_clause-requires : goal.as_trait_clause-requires
-as_trait_clause-requires g c =
-    subst (λ m. IsTrue (known (m.clause c.args.goal.now))) (sym c.cx-cx.ensures) c.requires
+pub clause_kind-value-requires : goal.clause_kind-value-requires
+clause_kind-value-requires g c =
+    subst (λ m. IsTrue (known (m.clause c.args.goal.now))) (sym c.cx.ensures) c.requires
 
-pub may_relate-requires : goal.may_relate-requires
-may_relate-requires g c =
-    subst (λ t. IsTrue (known t))
-    (subst (λ m. FindsTrait m c.args.goal.now (Some c.in-Some.form)) c.cx-cx.ensures c.in-Some.ensures) c.requires
+pub may_stand-requires : goal.may_stand-requires
+may_stand-requires g c =
+    let s = g.C.InferCtxtLike.state c.args.ctx.now in
+    let b = c.clause_kind-value.result in
+    let e = subst (λ m. m.clause c.args.goal.now ≡ clause_tree m b) c.cx.ensures c.clause_kind-value.ensures in
+    goal_known s c.args.goal.now b e c.requires (Trait c.in-Trait.value) c.in-Trait.is
 
-pub returns-in-Some : goal.returns-in-Some
-returns-in-Some g c =
-    goal_passed (g.C.InferCtxtLike.state c.args.ctx.now) c.args.goal.now c.requires c.in-Some.form
-    (subst (λ m. FindsTrait m c.args.goal.now (Some c.in-Some.form)) c.cx-cx.ensures c.in-Some.ensures)
-    c.may_relate.result c.is_ok.result c.is_ok.ensures.value c.may_relate.ensures.may c.may_relate.ensures.may_not
+pub returns-in-Trait : goal.returns-in-Trait
+returns-in-Trait g c =
+    let s = g.C.InferCtxtLike.state c.args.ctx.now in
+    let b = c.clause_kind-value.result in
+    let e = subst (λ m. m.clause c.args.goal.now ≡ clause_tree m b) c.cx.ensures c.clause_kind-value.ensures in
+    goal_passed s c.args.goal.now b e c.requires (Trait c.in-Trait.value) c.in-Trait.is tt c.may_stand.result
+    c.may_stand.ensures
 
-pub returns-in-None : goal.returns-in-None
-returns-in-None g c =
-    no_goal (g.C.InferCtxtLike.state c.args.ctx.now) c.args.goal.now
-    (subst (λ m. FindsTrait m c.args.goal.now None) c.cx-cx.ensures c.in-None.ensures)
+pub may_stand-requires-in-Projection : goal.may_stand-requires-in-Projection
+may_stand-requires-in-Projection g c =
+    let s = g.C.InferCtxtLike.state c.args.ctx.now in
+    let b = c.clause_kind-value.result in
+    let e = subst (λ m. m.clause c.args.goal.now ≡ clause_tree m b) c.cx.ensures c.clause_kind-value.ensures in
+    goal_known s c.args.goal.now b e c.requires (Projection c.in-Projection.value) c.in-Projection.is
+
+pub returns-in-Projection : goal.returns-in-Projection
+returns-in-Projection g c =
+    let s = g.C.InferCtxtLike.state c.args.ctx.now in
+    let b = c.clause_kind-value.result in
+    let e = subst (λ m. m.clause c.args.goal.now ≡ clause_tree m b) c.cx.ensures c.clause_kind-value.ensures in
+    goal_passed s c.args.goal.now b e c.requires (Projection c.in-Projection.value) c.in-Projection.is tt c.may_stand-in-Projection.result
+    c.may_stand-in-Projection.ensures
+
+pub returns-in_default : goal.returns-in_default
+returns-in_default g c =
+    let s = g.C.InferCtxtLike.state c.args.ctx.now in
+    let b = c.clause_kind-value.result in
+    let e = subst (λ m. m.clause c.args.goal.now ≡ clause_tree m b) c.cx.ensures c.clause_kind-value.ensures in
+    no_goal s c.args.goal.now b e c.requires c.in_default.not-Trait c.in_default.not-Projection

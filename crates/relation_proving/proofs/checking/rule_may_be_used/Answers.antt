@@ -4,7 +4,7 @@ use Rattle.std.specs.List.{All}
 use Rattle.std.proofs.lemmas.List.{take_all}
 use Rattle.std.proofs.lemmas.List.Elements.{All-nil, All-more, All-get_or}
 use Rattle.relation_terms.specs.Trees.{known, list_tree}
-use Rattle.relation_proving.specs.Checking.{IsTraitPart}
+use Rattle.relation_proving.specs.Checking.{IsProvablePart}
 use Rattle.relation_proving.proofs.Checked.{all_passed, none_passed, rule_of_parts, parts_of_rule, clauses_known}
 use Rattle.relation_proving.proofs.Checked.{list_known, part_at}
 use Rattle.relation_proving.proofs.checking.rule_may_be_used.Goals as goal
@@ -15,7 +15,7 @@ clauses-clauses-requires g c =
     (clauses_known (g.C.InferCtxtLike.state c.args.ctx.now).meaning c.args.rule.now c.requires)
 
 pub loop-clause-init : goal.loop-clause-init
-loop-clause-init g c = All-nil (IsTraitPart (g.C.InferCtxtLike.state c.args.ctx.now) (c.args.rule.now).bound_vars)
+loop-clause-init g c = All-nil (IsProvablePart (g.C.InferCtxtLike.state c.args.ctx.now) (c.args.rule.now).bound_vars)
 
 pub clause_may_stand-requires : goal.clause_may_stand-requires
 clause_may_stand-requires g c =
@@ -31,7 +31,7 @@ clause_may_stand-requires g c =
 
 pub loop-clause-preserved : goal.loop-clause-preserved
 loop-clause-preserved g c =
-    let here = IsTraitPart (g.C.InferCtxtLike.state c.args.ctx.now) (c.args.rule.now).bound_vars in
+    let here = IsProvablePart (g.C.InferCtxtLike.state c.args.ctx.now) (c.args.rule.now).bound_vars in
     let is : IsTrue c.clause_may_stand.result = (let i = c.if-not-clause_may_stand.false in search rules) in
     All-more here c.clauses-clauses.result.now c.loop-clause.clause-index c.clause-item.result c.loop-clause-test.true
     c.loop-clause.invariant (subst here c.clause-item.is (c.clause_may_stand.ensures.0 is))
@@ -39,7 +39,7 @@ loop-clause-preserved g c =
 pub returns-then-not-clause_may_stand : goal.returns-then-not-clause_may_stand
 returns-then-not-clause_may_stand g c =
     let s = g.C.InferCtxtLike.state c.args.ctx.now in
-    let here = IsTraitPart s (c.args.rule.now).bound_vars in
+    let here = IsProvablePart s (c.args.rule.now).bound_vars in
     let xs = c.clauses-clauses.result.now in
     let e = subst (λ n. n.clauses (c.args.rule.now).value ≡ list_tree n.clause xs) c.cx-cx.ensures
     c.clauses-clauses.ensures in
@@ -51,7 +51,7 @@ returns-then-not-clause_may_stand g c =
 pub returns : goal.returns
 returns g c =
     let s = g.C.InferCtxtLike.state c.args.ctx.now in
-    let here = IsTraitPart s (c.args.rule.now).bound_vars in
+    let here = IsProvablePart s (c.args.rule.now).bound_vars in
     let xs = c.clauses-clauses.result.now in
     let e = subst (λ n. n.clauses (c.args.rule.now).value ≡ list_tree n.clause xs) c.cx-cx.ensures
     c.clauses-clauses.ensures in
