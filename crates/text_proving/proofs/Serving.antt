@@ -1,22 +1,36 @@
 -- Rules that serve, by their clauses.
 use Rattle.std.proofs.Common.{◌≡◌, ℕ, ◌+◌, ◌<◌, List, [], ◌∷◌, ◌++◌, take, get_or, length, sym, ap, ◌∙◌, subst}
 use Rattle.std.proofs.Common.{Option, Some, None, IsTrue}
+use Rattle.std.specs.Prelude.{IfNone}
 use Rattle.std.specs.List.{All}
 use Rattle.std.proofs.lemmas.Bool.{and_parts, false≢true}
 use Rattle.std.proofs.lemmas.List.{take_more}
 use Rattle.std.proofs.lemmas.List.Elements.{All-push, All-nil, All-cons, All-head, All-tail}
+use Rattle.relation_terms.specs.declared.predicate.kinds.ClauseKind.{ClauseKind}
 use Rattle.relation_terms.specs.declared.terms.binder.Binder.{Binder}
 use Rattle.relation_terms.specs.declared.terms.keys.ClauseKey.{ClauseKey}
 use Rattle.relation_terms.specs.declared.terms.keys.ClausesKey.{ClausesKey}
 use Rattle.relation_terms.specs.Heads.{BoundKind}
 use Rattle.relation_terms.specs.Trees.{Tree, bind, nil, cons, list_tree, known, Leaves}
-use Rattle.relation_terms.specs.Meaning.{under}
+use Rattle.relation_terms.specs.Meaning.{Meaning, under}
+use Rattle.relation_terms.specs.Predicates.{clause_kind_tree, clause_tree}
 use Rattle.relation_semantics.specs.Contexts.{Context}
 use Rattle.relation_semantics.specs.Relation.{IsValueLeaf}
 use Rattle.relation_semantics.specs.Stores.{Store, InContext, IsTermIn}
 use Rattle.may_relate.specs.Fitting.{MayBeRelated}
 use Rattle.relation_proving.specs.RuleTerms.{KnowsRule}
 use Rattle.text_proving.specs.Asked.{FitsUnder, MayServe}
+
+-- What follows where nothing is answered.
+pub if_none : {X P Q : Type 0} (r : Option X) → (P → Q) → IfNone r P → IfNone r Q
+if_none None f p = f p
+if_none (Some x) f p = tt
+
+-- A clause that says this means it, under its binder.
+pub is_of : {Key Id Name : Type 0} (m : Meaning Key Id Name) (k : ClauseKey Key) (b : Binder Key (ClauseKind Key Id Name)) →
+    m.clause k ≡ clause_tree m b → (p : ClauseKind Key Id Name) → b.value ≡ p →
+    m.clause k ≡ under (m.bound_vars b.bound_vars) (clause_kind_tree m p)
+is_of m k b e p i = e ∙ ap (λ q. under (m.bound_vars b.bound_vars) (clause_kind_tree m q)) i
 
 -- What is so of the members before the next one, and of that, is so of all up to it.
 pub all_more : {X : Type 0} (P : X → Type 0) (xs : List X) (i : ℕ) (x : X) → x ≡ get_or xs i x → i < length xs →

@@ -81,7 +81,7 @@ pub fn write_unasked<W: Write>(why: WhyNot, out: &mut W) -> fmt::Result {
     out.write_str("not asked: ")?;
     match why {
         WhyNot::Open => out.write_str("a variable stands in an impl or in what is assumed"),
-        WhyNot::NoTrait => out.write_str("it is asked of traits alone"),
+        WhyNot::NoTrait => out.write_str("it is asked of traits and their types alone"),
         WhyNot::Unfit(Unfit::LaterUniverse(_)) => {
             out.write_str("the context's universe does not name the placeholder")
         }

@@ -2,14 +2,15 @@
 ghost use Rattle.std.specs.Prelude.{IsTrue, IfNone};
 ghost use Rattle.std.specs.List.{All};
 ghost use Rattle.relation_terms.specs.Trees.{known};
+ghost use Rattle.may_relate.specs.Fitting.{MayBeRelated};
 ghost use Rattle.relation_proving.specs.Candidates.{MayAsk};
 ghost use Rattle.relation_proving.specs.RuleTerms.{KnowsRule};
 ghost use Rattle.text_proving.specs.Asked.{clause_under, FitsUnder, MayServe};
 
 use crate::closed::are_closed;
-use may_relate::{HasVariables, Unfit, may_relate};
+use may_relate::{HasVariables, Relatable, Unfit, may_relate};
 use relation_proving::opening::RuleOf;
-use relation_terms::predicate::as_trait_clause;
+use relation_terms::predicate::ClauseKind;
 use relation_terms::terms::{Binder, BoundVars, Clause, Interner};
 
 /// Why a goal is not asked about.
@@ -17,10 +18,23 @@ use relation_terms::terms::{Binder, BoundVars, Clause, Interner};
 pub enum WhyNot {
     /// An inference variable stands in an impl or in what is assumed, or a stand-in for one.
     Open,
-    /// The goal, or what an impl gives or asks for, or what is assumed, is not that a trait is implemented.
+    /// The goal, or what an impl gives or asks for, or what is assumed, is neither that a trait is implemented nor what a
+    /// trait's type or constant is.
     NoTrait,
     /// One of them may not be related in the context.
     Unfit(Unfit),
+}
+
+// Why it is not asked about a term, if that may not be related.
+fn term_refusal<C: HasVariables, T: Relatable<C>>(ctx: &C, term: &T) -> Option<WhyNot>
+    requires { IsTrue (known (T.tree (C.state ctx.now).meaning term.now)) }
+    ensures { IfNone result
+        (MayBeRelated (C.state ctx.now).store (T.tree (C.state ctx.now).meaning term.now)) }
+{
+    match may_relate(ctx, term) {
+        Ok(()) => None,
+        Err(unfit) => Some(WhyNot::Unfit(unfit)),
+    }
 }
 
 // Why a clause of a rule is not asked about under the rule's binder, if it may not be.
@@ -32,14 +46,23 @@ fn clause_refusal<C: HasVariables>(
     requires { IsTrue (known (clause_under (C.state ctx.now) bound_vars clause.now)) }
     ensures { IfNone result (FitsUnder (C.state ctx.now) bound_vars clause.now) }
 {
-    let cx = ctx.cx();
-    let Some(value) = as_trait_clause(cx, clause) else {
-        return Some(WhyNot::NoTrait);
-    };
-    let form = Binder { value, bound_vars };
-    match may_relate(ctx, &form) {
-        Ok(()) => None,
-        Err(unfit) => Some(WhyNot::Unfit(unfit)),
+    let form = ctx.cx().clause_kind(clause);
+    match form.value {
+        ClauseKind::Trait(of) => {
+            let value = Binder {
+                value: of,
+                bound_vars: form.bound_vars,
+            };
+            term_refusal(ctx, &Binder { value, bound_vars })
+        }
+        ClauseKind::Projection(of) => {
+            let value = Binder {
+                value: of,
+                bound_vars: form.bound_vars,
+            };
+            term_refusal(ctx, &Binder { value, bound_vars })
+        }
+        _ => Some(WhyNot::NoTrait),
     }
 }
 
@@ -79,13 +102,11 @@ fn goal_refusal<C: HasVariables>(ctx: &C, goal: &Clause<C::Interner>) -> Option<
     requires { IsTrue (known ((C.state ctx.now).meaning.clause goal.now)) }
     ensures { IfNone result (MayAsk (C.state ctx.now) goal.now) }
 {
-    let cx = ctx.cx();
-    let Some(form) = as_trait_clause(cx, goal) else {
-        return Some(WhyNot::NoTrait);
-    };
-    match may_relate(ctx, &form) {
-        Ok(()) => None,
-        Err(unfit) => Some(WhyNot::Unfit(unfit)),
+    let Binder { value, bound_vars } = ctx.cx().clause_kind(goal);
+    match value {
+        ClauseKind::Trait(value) => term_refusal(ctx, &Binder { value, bound_vars }),
+        ClauseKind::Projection(value) => term_refusal(ctx, &Binder { value, bound_vars }),
+        _ => Some(WhyNot::NoTrait),
     }
 }
 

@@ -100,6 +100,7 @@ wrong_text found wrong.Assigned = expected_found (codes "an argument") found
 wrong_text found wrong.Counted = expected_found (codes "a number alone") found
 wrong_text found wrong.Place = expected_found (codes "a place by its number") found
 wrong_text found wrong.NoBound = expected_found (codes "that a trait is implemented") found
+wrong_text found wrong.NotProvable = expected_found (codes "that a trait is implemented, or what its type is") found
 wrong_text found wrong.NoProjection = expected_found (codes "a trait's type or constant") found
 wrong_text found wrong.NoPredicate = expected_found (codes "a predicate") found
 wrong_text found wrong.NoSolver = expected_found (codes "`old` or `next`") found

@@ -179,9 +179,9 @@ const WRONG: &str = "\
     overlap impl A for u8, impl A for u8; => text:1:14: `A` is no trait yet; `trait A;` declares one\n\
     methods{impl<const N> N=>a}of u8; => text:1:23: expected a type, found a constant\n\
     methods{u8=>a}of u8; => text:1:9: expected `impl`, found `u8`\n\
-    trait A; impl<T> A for T where T: !A; => text:1:10: expected that a trait is implemented, found `impl<T> A for T where T: !A`\n\
+    trait A; impl<T> A for T where T: !A; => text:1:10: expected that a trait is implemented, or what its type is, found `impl<T> A for T where T: !A`\n\
     impl A for u8; => text:1:6: `A` is no trait yet; `trait A;` declares one\n\
-    trait A; prove u8: !A; => text:1:10: expected that a trait is implemented, found `prove u8: !A`\n\
+    trait A; prove u8: !A; => text:1:10: expected that a trait is implemented, or what its type is, found `prove u8: !A`\n\
     trait A; prove u8: A at 129; => text:1:25: the number is too large\n\
     solve where u8: 'static; => text:1:13: expected a region, found a type";
 

@@ -64,6 +64,8 @@ pub enum Wrong {
     Place,
     /// The predicate does not claim that a trait is implemented.
     NoBound,
+    /// It claims neither that nor what a trait's type or constant is.
+    NotProvable,
     /// What is to come to a term is no trait's type or constant.
     NoProjection,
     /// No predicate has the name.
@@ -241,6 +243,11 @@ fn write_wrong<W: Write>(found: &str, why: Wrong, out: &mut W) -> fmt::Result
         Wrong::Counted => write_expected("a number alone", found, out),
         Wrong::Place => write_expected("a place by its number", found, out),
         Wrong::NoBound => write_expected("that a trait is implemented", found, out),
+        Wrong::NotProvable => write_expected(
+            "that a trait is implemented, or what its type is",
+            found,
+            out,
+        ),
         Wrong::NoProjection => write_expected("a trait's type or constant", found, out),
         Wrong::NoPredicate => write_expected("a predicate", found, out),
         Wrong::NoSolver => write_expected("`old` or `next`", found, out),

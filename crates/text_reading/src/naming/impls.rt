@@ -1,8 +1,10 @@
 //! Impls, and questions about impls and methods, of the tree's nodes.
 
+use crate::naming::aliases::sort_of;
 use crate::naming::error::{NameError, Wrong, error_at};
 use crate::naming::namer::Namer;
 use crate::naming::program::{Clause, Impl, Method, Parts, QuestionKind, Says};
+use crate::naming::terms::Wanted;
 use crate::reading::{Claim, Node};
 use term_enums::PredicatePolarity;
 
@@ -27,7 +29,7 @@ impl<'a> Namer<'a> {
     // The header of an impl, and the node of its trait.
     fn header(&mut self, whole: &Node, number: usize) -> Result<(Node, Clause), NameError> {
         let node = self.node(whole, number)?;
-        let [generics, of, ty] = self.parts(&node)? else {
+        let [generics, of, ty, ..] = self.parts(&node)? else {
             return Err(error_at(&node, Wrong::NotRead));
         };
         let variables = self.variables(&node, *generics)?;
@@ -49,7 +51,51 @@ impl<'a> Namer<'a> {
         self.note(QuestionKind::Overlap { left, right })
     }
 
-    // An impl that later goals may follow from: what it is generic over, what it gives, and what it asks for.
+    // A rule that later goals may follow from: what it is generic over, what it gives, and what it asks for.
+    fn add_rule(
+        &mut self,
+        node: &Node,
+        variables: Parts,
+        gives: Clause,
+        asks: &[usize],
+    ) -> Result<(), NameError> {
+        let first = self.program.clauses.len();
+        self.program.clauses.push(gives)?;
+        let asked = self.clauses(node, asks)?;
+        self.each_provable(node, asked)?;
+        let clauses = Parts {
+            first,
+            behind: asked.behind,
+        };
+        self.program.impls.push(Impl { variables, clauses })?;
+        Ok(())
+    }
+
+    // What an impl says that a type or a constant of its trait is.
+    fn assigned(&mut self, given: &Node, number: usize) -> Result<Clause, NameError> {
+        let node = self.node(given, number)?;
+        let ([generics, of, ty, ..], [name, term]) = (self.parts(given)?, self.parts(&node)?) else {
+            return Err(error_at(&node, Wrong::NotRead));
+        };
+        let named = self.given_alone(given, *of)?;
+        let of = self.trait_of(&named.node, named.name)?;
+        let item = self.associated_of(&node, of, *name, 0)?;
+        let sort = match self.program.items.get(item) {
+            Some(found) => found.sort,
+            None => return Err(error_at(&node, Wrong::NotRead)),
+        };
+        let mut args = Vec::new(self.alloc);
+        args.push(*ty)?;
+        args.extend_from_slice(&named.args)?;
+        let args = self.list(&node, &args, Wanted::Implemented(item))?;
+        let term = self.term(&node, *term, Some(sort_of(sort)))?;
+        let variables = self.variables(given, *generics)?;
+        let says = Says::ComesTo(sort, item, args.parts, term.number);
+        Ok(Clause { variables, says })
+    }
+
+    // An impl that later goals may follow from: what it is generic over, what it gives, and what it asks for. What it says
+    // that a type or a constant of its trait is, is a rule of its own, which asks for the same.
     pub fn declare_impl(
         &mut self,
         node: &Node,
@@ -58,16 +104,17 @@ impl<'a> Namer<'a> {
         asks: &[usize],
     ) -> Result<(), NameError> {
         let variables = self.variables(node, generics)?;
-        let (_, given) = self.header(node, given)?;
-        let first = self.program.clauses.len();
-        self.program.clauses.push(given)?;
-        let asked = self.clauses(node, asks)?;
-        self.each_implements(node, asked)?;
-        let clauses = Parts {
-            first,
-            behind: asked.behind,
+        let (_, header) = self.header(node, given)?;
+        self.add_rule(node, variables, header, asks)?;
+        let given = self.node(node, given)?;
+        let [.., gives] = self.parts(&given)? else {
+            return Err(error_at(&given, Wrong::NotRead));
         };
-        self.program.impls.push(Impl { variables, clauses })?;
+        let gives = self.node(&given, *gives)?;
+        for number in self.parts(&gives)? {
+            let clause = self.assigned(&given, *number)?;
+            self.add_rule(node, variables, clause, asks)?;
+        }
         Ok(())
     }
 
@@ -83,7 +130,7 @@ impl<'a> Namer<'a> {
     // Whether a predicate follows from the impls so far and from what is assumed.
     pub fn note_prove(&mut self, node: &Node, goal: usize, depth: usize) -> Result<(), NameError> {
         let clauses = self.clauses(node, &[goal])?;
-        self.each_implements(node, clauses)?;
+        self.each_provable(node, clauses)?;
         let impls = self.program.impls.len();
         self.note(QuestionKind::Prove {
             goal: clauses.first,

@@ -100,6 +100,21 @@ impl<'a> Namer<'a> {
         Ok(())
     }
 
+    // Predicates have to be such of which it can be told whether they follow: that a trait is implemented, or what a type
+    // or a constant of a trait is.
+    pub fn each_provable(&self, node: &Node, clauses: Parts) -> Result<(), NameError> {
+        let found = self.program.clauses.get(clauses.first..clauses.behind);
+        for clause in found.unwrap_or(&[]) {
+            if !matches!(
+                clause.says,
+                Says::Claims(Claim::Trait(PredicatePolarity::Positive), _, _) | Says::ComesTo(..)
+            ) {
+                return Err(error_at(node, Wrong::NotProvable));
+            }
+        }
+        Ok(())
+    }
+
     // Predicates, as a range of the program's list.
     pub fn clauses(&mut self, whole: &Node, numbers: &[usize]) -> Result<Parts, NameError> {
         let first = self.program.clauses.len();

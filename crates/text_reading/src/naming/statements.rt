@@ -281,7 +281,7 @@ impl<'a> Namer<'a> {
             (Form::Impl, [generics, given, asks @ ..]) => {
                 self.declare_impl(node, *generics, *given, asks)
             }
-            (Form::Given, _) => Ok(()),
+            (Form::Given | Form::Gives, _) => Ok(()),
             _ => self.question(node, form, parts),
         }
     }

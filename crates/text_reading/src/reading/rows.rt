@@ -10,7 +10,7 @@ mod statements;
 mod terms;
 
 use crate::reading::shapes::{Shape, Sort};
-use impls::{GENERIC_PARAM, GENERICS, GIVEN, IMPL_HEADER, METHOD};
+use impls::{ASSIGNED, GENERIC_PARAM, GENERICS, GIVEN, GIVES, IMPL_HEADER, METHOD};
 use predicates::{LIMIT, PREDICATE, PREDICATE_BINDER, PULLS};
 use questions::{ARGUMENTS, ASKED, NUMBER, OUTLIVES, PAIR, PUT, QUESTION, SKIP, STOP};
 use statements::{DECLARED, MADE, PARAMETER, STATEMENT, STATING};
@@ -45,6 +45,8 @@ pub(super) fn rows_of(sort: Sort) -> &'static [Shape]
         Sort::Predicate => &PREDICATE,
         Sort::ImplHeader => &IMPL_HEADER,
         Sort::Given => &GIVEN,
+        Sort::Gives => &GIVES,
+        Sort::Assigned => &ASSIGNED,
         Sort::Generics => &GENERICS,
         Sort::GenericParam => &GENERIC_PARAM,
         Sort::Method => &METHOD,

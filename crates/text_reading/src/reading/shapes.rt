@@ -29,9 +29,12 @@ pub enum Sort {
     Limit,
     Pulls,
     Predicate,
-    /// The header of an impl, what one gives, the list of what it is generic over, and what stands in that.
+    /// The header of an impl, what one gives, what it says that its trait's types and constants are, one of these, the
+    /// list of what it is generic over, and what stands in that.
     ImplHeader,
     Given,
+    Gives,
+    Assigned,
     Generics,
     GenericParam,
     /// A method of a table.

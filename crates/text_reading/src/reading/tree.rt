@@ -123,9 +123,11 @@ pub enum Form {
     Assumes,
     /// An impl, for later questions: the `Generics` that it is under, the `Given`, and the predicates that it asks for.
     Impl,
-    /// What an impl gives: the `Bound` of a binder that binds nothing, the `Named` of the trait, and the type that
-    /// implements it.
+    /// What an impl gives: the `Bound` of a binder that binds nothing, the `Named` of the trait, the type that implements
+    /// it, and the `Gives`.
     Given,
+    /// What an impl says that its trait's types and constants are: an `Assigned` for each.
+    Gives,
     /// The trait that the language knows as `Sized`: its name.
     IsSized,
     /// That a type implements a trait, or not: the `Bound` of the binder, the type, and the `Named` of the trait.

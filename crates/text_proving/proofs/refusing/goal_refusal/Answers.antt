@@ -1,27 +1,49 @@
 use Rattle.std.proofs.Common.{◌≡◌, IsTrue, sym, subst}
-use Rattle.relation_terms.specs.Clauses.{trait_clause_tree}
+use Rattle.relation_terms.specs.declared.predicate.kinds.ClauseKind.TheVariants.{Trait, Projection}
+use Rattle.relation_terms.specs.Predicates.{clause_tree}
 use Rattle.relation_terms.specs.Trees.{known}
 use Rattle.may_relate.specs.Fitting.{MayBeRelated}
+use Rattle.text_proving.proofs.Serving.{if_none, is_of}
 use Rattle.text_proving.proofs.refusing.goal_refusal.Goals as goal
 
-pub as_trait_clause-requires : goal.as_trait_clause-requires
-as_trait_clause-requires g c =
-    subst (λ n. IsTrue (known (n.clause c.args.goal.now))) (sym c.cx-cx.ensures) c.requires
+pub clause_kind-requires : goal.clause_kind-requires
+clause_kind-requires g c =
+    subst (λ n. IsTrue (known (n.clause c.args.goal.now))) (sym c.cx.ensures) c.requires
 
-pub may_relate-requires : goal.may_relate-requires
-may_relate-requires g c =
+pub term_refusal-requires : goal.term_refusal-requires
+term_refusal-requires g c =
     let m = (g.C.InferCtxtLike.state c.args.ctx.now).meaning in
     let k = c.args.goal.now in
-    let says : m.clause k ≡ trait_clause_tree m c.in-Some.form =
-    subst (λ n. n.clause k ≡ trait_clause_tree n c.in-Some.form) c.cx-cx.ensures c.in-Some.ensures in
-    subst (λ t. IsTrue (known t)) says c.requires
+    subst (λ t. IsTrue (known t))
+    (is_of m k c.clause_kind.result (subst (λ n. n.clause k ≡ clause_tree n c.clause_kind.result) c.cx.ensures
+    c.clause_kind.ensures) (Trait c.in-Trait.value) c.in-Trait.is) c.requires
 
-pub returns-in-Ok : goal.returns-in-Ok
-returns-in-Ok g c =
+pub returns-in-Trait : goal.returns-in-Trait
+returns-in-Trait g c =
     let s = g.C.InferCtxtLike.state c.args.ctx.now in
     let m = s.meaning in
     let k = c.args.goal.now in
-    let says : m.clause k ≡ trait_clause_tree m c.in-Some.form =
-    subst (λ n. n.clause k ≡ trait_clause_tree n c.in-Some.form) c.cx-cx.ensures c.in-Some.ensures in
-    let may = subst (MayBeRelated s.store) (sym says) c.in-Ok.ensures.may in
-    record { is_known = c.requires; is_in = may.0; taken = may.1 }
+    let says = is_of m k c.clause_kind.result (subst (λ n. n.clause k ≡ clause_tree n c.clause_kind.result)
+    c.cx.ensures c.clause_kind.ensures) (Trait c.in-Trait.value) c.in-Trait.is in
+    if_none c.term_refusal.result (λ h.
+        let may = subst (MayBeRelated s.store) (sym says) h in
+        record { is_known = c.requires; is_in = may.0; taken = may.1 }) c.term_refusal.ensures
+
+pub term_refusal-in-Projection-requires : goal.term_refusal-in-Projection-requires
+term_refusal-in-Projection-requires g c =
+    let m = (g.C.InferCtxtLike.state c.args.ctx.now).meaning in
+    let k = c.args.goal.now in
+    subst (λ t. IsTrue (known t))
+    (is_of m k c.clause_kind.result (subst (λ n. n.clause k ≡ clause_tree n c.clause_kind.result) c.cx.ensures
+    c.clause_kind.ensures) (Projection c.in-Projection.value) c.in-Projection.is) c.requires
+
+pub returns-in-Projection : goal.returns-in-Projection
+returns-in-Projection g c =
+    let s = g.C.InferCtxtLike.state c.args.ctx.now in
+    let m = s.meaning in
+    let k = c.args.goal.now in
+    let says = is_of m k c.clause_kind.result (subst (λ n. n.clause k ≡ clause_tree n c.clause_kind.result)
+    c.cx.ensures c.clause_kind.ensures) (Projection c.in-Projection.value) c.in-Projection.is in
+    if_none c.term_refusal-in-Projection.result (λ h.
+        let may = subst (MayBeRelated s.store) (sym says) h in
+        record { is_known = c.requires; is_in = may.0; taken = may.1 }) c.term_refusal-in-Projection.ensures

@@ -27,7 +27,25 @@ pub(in crate::reading) static GIVEN: [Shape; 1] = [(
         Part(Sort::Named),
         Mark(Sign::For),
         Part(Sort::Term),
+        Part(Sort::Gives),
     ],
+)];
+
+// What it says that its trait's types and constants are, or that list, left out.
+pub(in crate::reading) static GIVES: [Shape; 2] = [
+    (
+        Node(Form::Gives),
+        &[
+            Mark(Sign::LeftBrace),
+            List(Sort::Assigned, Line::To(Sign::RightBrace)),
+        ],
+    ),
+    (Node(Form::Gives), &[]),
+];
+
+pub(in crate::reading) static ASSIGNED: [Shape; 1] = [(
+    Node(Form::Assigned),
+    &[Leaf(Expected::Name), Mark(Sign::Assign), Part(Sort::Term)],
 )];
 
 // What an impl is generic over, or the list that is left out.
