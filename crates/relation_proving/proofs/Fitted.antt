@@ -1,20 +1,17 @@
 -- What became of two clauses, by what they are told to say.
-use Rattle.std.proofs.Common.{sym, subst, subst₂, None, IsTrue}
-use Rattle.std.specs.Prelude.{IfOk, Result, Ok, Err}
+use Rattle.std.proofs.Common.{subst, None}
+use Rattle.std.specs.Prelude.{IfOk, Result}
 use Rattle.term_enums.specs.declared.Variance.TheVariants.{Invariant}
 use Rattle.relation_terms.specs.declared.predicate.alias_term.ProjectionPredicate.{ProjectionPredicate}
 use Rattle.relation_terms.specs.declared.predicate.kinds.ClauseKind.TheVariants.{Trait, Projection}
 use Rattle.relation_terms.specs.declared.predicate.trait_ref.TraitPredicate.{TraitPredicate}
 use Rattle.relation_terms.specs.declared.terms.keys.ClauseKey.{ClauseKey}
 use Rattle.relation_terms.specs.declared.terms.keys.ParamEnvKey.{ParamEnvKey}
-use Rattle.relation_terms.specs.Trees.{bind}
-use Rattle.relation_terms.specs.Predicates.{clause_kind_tree}
 use Rattle.relation_semantics.specs.Contexts.{Context, KnowsEnv}
 use Rattle.type_relations.specs.Contract.{CanRelate}
-use Rattle.relation_proving.specs.Bodies.{IsBodyOf, AreOfOneItem, AreSaid, TellsBodies}
+use Rattle.relation_proving.specs.Bodies.{IsBodyOf, AreOfOneItem, AreSaid}
 use Rattle.relation_proving.specs.Candidates.{MayAsk, MayFit, TellsClauses}
 use Rattle.relation_proving.specs.Fitting.{TellsFit}
-use Rattle.relation_proving.specs.declared.comparing.Bodies.{Bodies}
 use Rattle.relation_proving.specs.declared.comparing.Bodies.TheVariants.{OfTrait, OfItem, OfTwo}
 use Rattle.relation_proving.specs.declared.fitting.Fitting.{Fitting}
 use Rattle.relation_proving.specs.declared.fitting.Fitting.TheVariants.{Apart}

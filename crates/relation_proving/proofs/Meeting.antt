@@ -11,13 +11,12 @@ use Rattle.relation_terms.specs.declared.predicate.trait_ref.TraitPredicate.{Tra
 use Rattle.relation_terms.specs.declared.terms.keys.ArgsKey.{ArgsKey}
 use Rattle.relation_terms.specs.declared.terms.keys.ClauseKey.{ClauseKey}
 use Rattle.relation_terms.specs.declared.terms.keys.ParamEnvKey.{ParamEnvKey}
-use Rattle.relation_terms.specs.declared.terms.generic_arg.TermKind.{TermKind}
 use Rattle.relation_terms.specs.Erasure.{erase}
-use Rattle.relation_terms.specs.Heads.{Head, Leaf, variable, AliasTermKind, arguments, projection, alias_term}
+use Rattle.relation_terms.specs.Heads.{Leaf, variable, AliasTermKind, arguments, projection, alias_term}
 use Rattle.relation_terms.specs.Trees.{Tree, node, bind, nil, cons, inst, known, count, Assign, apply}
 use Rattle.relation_terms.specs.Meaning.{Meaning, Extends, term_tree}
-use Rattle.relation_terms.specs.Predicates.{alias_term_kind, alias_term_id, alias_term_tree, clause_kind_tree}
-use Rattle.relation_terms.proofs.Paths.{bind_path, parts_path, first_path, rest_path}
+use Rattle.relation_terms.specs.Predicates.{alias_term_kind, alias_term_id, clause_kind_tree}
+use Rattle.relation_terms.proofs.Paths.{parts_path, first_path, rest_path}
 use Rattle.relation_terms.proofs.Stays.{stays_term}
 use Rattle.relation_semantics.specs.Bound.{IsWellBound}
 use Rattle.relation_semantics.specs.Contexts.{Context, KnowsEnv}
@@ -29,7 +28,7 @@ use Rattle.relation_semantics.specs.Outcomes.{Exact, NoUnifier}
 use Rattle.relation_semantics.specs.Relation.{Items, Interpretation, Rel, at, parts, same, anything, error_left, error_right}
 use Rattle.relation_semantics.specs.Relation.{regions, alias_types, equal_consts, forms, no_parts, next_part}
 use Rattle.relation_semantics.specs.Relation.{StaysWithin, invariant_binders, open_second, open_first}
-use Rattle.relation_semantics.specs.Steps.{AgreeErased, IsLater}
+use Rattle.relation_semantics.specs.Steps.{IsLater}
 use Rattle.relation_semantics.specs.Stores.{Store, InContext, IsTermIn, IsMadeLeaf, IsAssignment, Satisfies}
 use Rattle.relation_semantics.proofs.Answering.{items_stay}
 use Rattle.relation_semantics.proofs.Exactness.{exacts_compose, unifies_still}
@@ -37,10 +36,10 @@ use Rattle.relation_semantics.proofs.Standing.{later_term, term_context}
 use Rattle.relation_semantics.proofs.Trees.{StaysIn, Leaves_map, inst_within}
 use Rattle.relation_semantics.proofs.Values.{stays_apply}
 use Rattle.type_relations.specs.Contract.{CanRelate}
-use Rattle.relation_solver.specs.Rules.{Meets, related, projections}
+use Rattle.relation_solver.specs.Rules.{related, projections}
 use Rattle.relation_solver.proofs.Bodies.{exact_under, apart_under}
-use Rattle.relation_proving.specs.Bodies.{IsBodyOf, AreOfOneItem, TellsKinds, AreSaid}
-use Rattle.relation_proving.specs.Candidates.{MayAsk, MayFit, AreFirstOrder, ClausesMeet, ClausesAreApart, TellsClauses}
+use Rattle.relation_proving.specs.Bodies.{IsBodyOf, AreOfOneItem}
+use Rattle.relation_proving.specs.Candidates.{MayAsk, MayFit, AreFirstOrder, ClausesAreApart, TellsClauses}
 use Rattle.relation_proving.specs.Fitting.{AreMadeOne, AreToldApart, TellsFit}
 use Rattle.relation_proving.specs.declared.fitting.Fitting.{Fitting}
 use Rattle.relation_proving.specs.declared.fitting.Fitting.TheVariants.{Fits, Apart, Left}

@@ -1,12 +1,9 @@
 -- What two clauses are told to say.
-use Rattle.std.proofs.Common.{◌≡◌, refl, subst, IsTrue, true}
-use Rattle.std.proofs.lemmas.Bool.{and_parts}
-use Rattle.relation_terms.specs.declared.predicate.alias_term.ProjectionPredicate.{ProjectionPredicate}
+use Rattle.std.proofs.Common.{subst, IsTrue}
 use Rattle.relation_terms.specs.declared.predicate.kinds.ClauseKind.{ClauseKind}
-use Rattle.relation_terms.specs.declared.predicate.kinds.ClauseKind.TheVariants.{Trait, Projection}
 use Rattle.relation_terms.specs.declared.terms.keys.ClauseKey.{ClauseKey}
-use Rattle.relation_terms.specs.Trees.{known, cons, nil}
-use Rattle.relation_terms.specs.Meaning.{Meaning, term_tree}
+use Rattle.relation_terms.specs.Trees.{known}
+use Rattle.relation_terms.specs.Meaning.{Meaning}
 use Rattle.relation_terms.specs.Predicates.{clause_kind_tree}
 use Rattle.relation_proving.specs.Bodies.{IsBodyOf, TellsKinds, TellsBodies}
 use Rattle.relation_proving.specs.declared.comparing.Bodies.{Bodies}
@@ -16,11 +13,6 @@ module _ {Key Id Name : Type 0} (m : Meaning Key Id Name) where
   pub body_known : (k : ClauseKey Key) (p : ClauseKind Key Id Name) → IsBodyOf m k p → IsTrue (known (m.clause k)) →
       IsTrue (known (clause_kind_tree m p))
   body_known k p e h = subst (λ t. IsTrue (known t)) e h
-
-  pub item_args_known : (p : ProjectionPredicate Key Id) → IsTrue (known (clause_kind_tree m (Projection p))) →
-      IsTrue (known (m.args (p.projection_term).args))
-  item_args_known p h =
-      (and_parts (known (m.args (p.projection_term).args)) (known (cons (term_tree m p.term) nil)) h).0
 
   pub are_said : (k g : ClauseKey Key) (q p : ClauseKind Key Id Name) → IsBodyOf m k q → IsBodyOf m g p →
       (said : Bodies Key Id) → TellsKinds m q p said → TellsBodies m k g said

@@ -1,4 +1,4 @@
-use Rattle.std.proofs.Common.{rules, ◌≡◌, ◌∙◌, sym, ap, IsTrue, length}
+use Rattle.std.proofs.Common.{rules, ◌∙◌, sym, ap, IsTrue, length}
 use Rattle.std.proofs.lemmas.Bool.{eqb-true}
 use Rattle.relation_terms.specs.Meaning.{arg_tree}
 use Rattle.relation_terms.specs.Trees.{count}

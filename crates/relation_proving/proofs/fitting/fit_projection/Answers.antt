@@ -1,10 +1,8 @@
 -- The arguments are related, then what the aliases come to.
-use Rattle.std.proofs.Common.{◌∙◌, sym, subst, ap}
 use Rattle.relation_terms.proofs.Stays.{extends_on}
 use Rattle.relation_semantics.proofs.Going.{later_through}
-use Rattle.relation_proving.specs.Fitting.{TellsFit}
 use Rattle.relation_proving.specs.declared.fitting.Fitting.TheVariants.{Fits, Apart}
-use Rattle.relation_proving.proofs.Meeting.{args_tree, args_may, args_told, args_apart, terms_may, terms_result}
+use Rattle.relation_proving.proofs.Meeting.{args_may, args_told, args_apart, terms_may, terms_result}
 use Rattle.relation_proving.proofs.fitting.fit_projection.Goals as goal
 
 pub fit-requires : goal.fit-requires
