@@ -18,7 +18,7 @@ use reference_interner::{
 use relation_folds::error::{RelateFault, RelateResult};
 use relation_proving::checking::{goal_may_be_asked, rules_may_be_used};
 use relation_proving::opening::RuleOf;
-use relation_proving::proving::{Told, Why, prove};
+use relation_proving::proving::{Told, ToldOf, Why, prove};
 use relation_reference::context::RefCtxt;
 use relation_semantics::infer_ctxt::{InferCtxtLike, TypingMode};
 use relation_terms::predicate::{ClauseKind, PredicatePolarity, TraitPredicate, TraitRef};
@@ -31,7 +31,7 @@ use std::alloc::Global;
 use std::test::Fail;
 
 /// What is answered, if anything is asked.
-type Answer<I> = Option<RelateResult<I, Told>>;
+type Answer<I> = Option<RelateResult<I, ToldOf<I>>>;
 
 // Whether a solver may be asked whether a goal follows from rules.
 fn may_be_asked<C: HasVariables>(
@@ -236,7 +236,7 @@ fn told_by<I: Interner + Drop>(
     second: RuleOf<I>,
     goal: Clause<I>,
     depth: usize,
-) -> RelateResult<I, Option<Told>>
+) -> RelateResult<I, Option<ToldOf<I>>>
     requires first_known { IsTrue (known (rule_tree (I.meaning cx) first)) }
     requires second_known { IsTrue (known (rule_tree (I.meaning cx) second)) }
     requires goal_known { IsTrue (known ((I.meaning cx).clause goal)) }
@@ -265,7 +265,7 @@ fn told_of_vec<I: Interner + Drop>(
     name: I::Name,
     inner: Inner,
     depth: usize,
-) -> RelateResult<I, Option<Told>> {
+) -> RelateResult<I, Option<ToldOf<I>>> {
     let for_vecs = make_impl(&mut cx, items.vec, items.ranked, name)?;
     let had = make_had(&mut cx, items.ranked, name, Inner::Param)?;
     let ty = make_inner(&mut cx, name, inner)?;
@@ -281,7 +281,7 @@ fn told_of_given<I: Interner + Drop>(
     name: I::Name,
     other: Inner,
     inner: Inner,
-) -> RelateResult<I, Option<Told>> {
+) -> RelateResult<I, Option<ToldOf<I>>> {
     let of_param = make_had(&mut cx, items.ranked, name, Inner::Param)?;
     let of_other = make_had(&mut cx, items.ranked, name, other)?;
     let ty = make_inner(&mut cx, name, inner)?;
@@ -308,7 +308,11 @@ pub(crate) fn add_items(cx: &mut RefInterner, alloc: Global) -> Result<Items<Ite
 }
 
 // What is told of vectors over the plain interner, and of what they are over.
-fn told_of(alloc: Global, inner: Inner, depth: usize) -> RelateResult<RefInterner, Option<Told>> {
+fn told_of(
+    alloc: Global,
+    inner: Inner,
+    depth: usize,
+) -> RelateResult<RefInterner, Option<ToldOf<RefInterner>>> {
     let mut cx = RefInterner::new(alloc);
     let items = add_items(&mut cx, alloc)?;
     told_of_vec(cx, items, SymbolId(0), inner, depth)
@@ -318,20 +322,28 @@ fn told_alone(
     alloc: Global,
     other: Inner,
     inner: Inner,
-) -> RelateResult<RefInterner, Option<Told>> {
+) -> RelateResult<RefInterner, Option<ToldOf<RefInterner>>> {
     let mut cx = RefInterner::new(alloc);
     let items = add_items(&mut cx, alloc)?;
     told_of_given(cx, items, SymbolId(0), other, inner)
 }
 
+// The place of the rule that asked for what failed, if a goal doesn't follow for that.
+fn asked_by(told: RelateResult<RefInterner, Option<ToldOf<RefInterner>>>) -> Option<usize> {
+    match told {
+        Ok(Some(Told::No(Some(blame)))) => Some(blame.by),
+        _ => None,
+    }
+}
+
 #[test]
 fn goals_follow_or_not(rt: HostRuntime) -> Result<(), Fail> {
     let alloc = rt.alloc();
-    assert!(rt; told_of(alloc, Inner::Param, 3) == Ok(Some(Told::Yes)));
-    assert!(rt; told_of(alloc, Inner::Byte, 3) == Ok(Some(Told::No)));
+    assert!(rt; told_of(alloc, Inner::Param, 3) == Ok(Some(Told::Yes(0))));
+    assert!(rt; asked_by(told_of(alloc, Inner::Byte, 3)) == Some(0));
     assert!(rt; told_of(alloc, Inner::Variable, 3) == Ok(Some(Told::Maybe(Why::Depth))));
-    assert!(rt; told_alone(alloc, Inner::Byte, Inner::Byte) == Ok(Some(Told::Yes)));
-    assert!(rt; told_alone(alloc, Inner::Param, Inner::Param) == Ok(Some(Told::Yes)));
+    assert!(rt; told_alone(alloc, Inner::Byte, Inner::Byte) == Ok(Some(Told::Yes(1))));
+    assert!(rt; told_alone(alloc, Inner::Param, Inner::Param) == Ok(Some(Told::Yes(0))));
     let ambiguous = Ok(Some(Told::Maybe(Why::Ambiguous)));
     assert!(rt; told_alone(alloc, Inner::Byte, Inner::Variable) == ambiguous);
     Ok(())

@@ -1,5 +1,5 @@
 -- Bounds that are asked one after another, and what is known of those so far.
-use Rattle.std.proofs.Common.{◌≡◌, ℕ, ◌+◌, ◌<◌, ◌≤◌, List, [], refl, sym, subst, All, length, get_or, take}
+use Rattle.std.proofs.Common.{◌≡◌, ℕ, ◌+◌, ◌<◌, ◌≤◌, List, [], refl, sym, subst, All, length, get_or, take, Option}
 use Rattle.std.specs.Prelude.{IfOk, Result, Ok, Err}
 use Rattle.std.proofs.lemmas.List.{take_all}
 use Rattle.std.proofs.lemmas.List.Elements.{All-nil, All-get_or, All-more}
@@ -19,6 +19,7 @@ use Rattle.relation_proving.specs.RuleTerms.{MayUse}
 use Rattle.relation_proving.specs.Telling.{GoesOn, IsExact, goal_tree}
 use Rattle.relation_proving.specs.declared.told.Why.{Why}
 use Rattle.relation_proving.specs.declared.told.Why.TheVariants.{Ambiguous}
+use Rattle.relation_proving.specs.declared.told.Blame.{Blame}
 use Rattle.relation_proving.specs.declared.told.Told.{Told}
 use Rattle.relation_proving.specs.declared.told.Told.TheVariants.{Yes, No}
 use Rattle.relation_proving.proofs.GoingOn.{goes_itself, goes_through, exact_on, goal_stays, goals_first_order}
@@ -94,9 +95,9 @@ module _ {Key Id Name : Type 0} (c : Context Key Id Name) (ks : List (Binder Key
             (subst (λ k. Follows u [] rs (one (apply s (goal_tree c k)))) is (followed u rs c d h.goes_on s g may
             (subst (λ v. Follows v [] rs (one (apply s (goal_tree d g)))) same_universe k)))
 
-      module _ {F : Type 0} (result : Result Told F) where
+      module _ {F : Type 0} (result : Result (Told Key) F) where
         -- One was proved.
-        pub asking_goes_on : result ≡ Ok Yes → YesMakesFollow d e ks g result → YesLosesNone d e ks g result →
+        pub asking_goes_on : {at : ℕ} → result ≡ Ok (Yes at) → YesMakesFollow d e ks g result → YesLosesNone d e ks g result →
             YesStaysFirstOrder d e ks g result → AskedSoFar e (n + 1) told
         asking_goes_on proved sound principal stays = record {
           goes_on = goes_through c d e h.goes_on on;
@@ -123,7 +124,7 @@ module _ {Key Id Name : Type 0} (c : Context Key Id Name) (ks : List (Binder Key
         }
 
         -- One does not follow.
-        pub asking_fails : result ≡ Ok No → NoFollowsNever d e ks g result → TellsBounds c e ks gs (Apart (ByBound n))
+        pub asking_fails : {named : Option (Blame Key)} → result ≡ Ok (No named) → NoFollowsNever d e ks g result → TellsBounds c e ks gs (Apart (ByBound n))
         asking_fails fails none = λ u rs x f s sol a.
             let p = ((h.kept u rs x f).goes).keeps s sol a in
             subst (NoFollowsNever d e ks g) fails none rs (exact_then u rs x f) (first_order_then u rs x f) p.0 p.2

@@ -50,8 +50,8 @@ fn each_holds<C: KeepsRecord>(
     let mut told = Impls::Meet;
     for (place, bound) in bounds.iter().enumerate() {
         match prove(ctx, rules, param_env, bound, depth, span)? {
-            Told::Yes => {}
-            Told::No => return Ok(Impls::Apart(WhyApart::ByBound(place))),
+            Told::Yes(_) => {}
+            Told::No(_) => return Ok(Impls::Apart(WhyApart::ByBound(place))),
             Told::Maybe(why) => {
                 told = Impls::Unclear(why);
             }

@@ -1,7 +1,7 @@
 -- What is told of goals, of lists and of rules, put together.
 use Rattle.std.proofs.Common.{◌≡◌, ℕ, zero, suc, ◌<◌, ◌≤◌, List, [], ◌∷◌, refl, sym, subst, map, All, length}
-use Rattle.std.proofs.Common.{get_or, take, drop, arith, subst₂, le_trans}
-use Rattle.std.specs.Prelude.{Contains, IfOk, Result, Ok, Err}
+use Rattle.std.proofs.Common.{get_or, take, drop, arith, subst₂, le_trans, Option, Some, None}
+use Rattle.std.specs.Prelude.{Contains, IfOk, IfSome, Result, Ok, Err}
 use Rattle.std.specs.Global.{Vec}
 use Rattle.std.specs.List.{remove, AllZip}
 use Rattle.std.proofs.lemmas.List.Elements.{All-append, All-take, All-drop, All-get_or}
@@ -16,19 +16,22 @@ use Rattle.relation_semantics.proofs.Answering.{items_stay}
 use Rattle.relation_semantics.specs.Stores.{Store}
 use Rattle.relation_solver.specs.Rules.{Rule, one, all}
 use Rattle.relation_solver.specs.Traces.{Without, first, later, Did, goal, rule, yes, no, FollowsBy}
-use Rattle.relation_solver.specs.Traces.{StandsFirst, Proves, took, none_asked, one_of}
-use Rattle.relation_solver.proofs.Deriving.{proved_in}
+use Rattle.relation_solver.specs.Traces.{StandsFirst, Proves, ProvesBy, none_asked, one_of}
+use Rattle.relation_solver.proofs.Deriving.{proved_in, proved_by_one}
 use Rattle.relation_solver.proofs.Going.{LeavesToAsk, asks_begin, asks_go_on, asks_end, asks_fail}
 use Rattle.relation_solver.proofs.Going.{rule_is_apart, rule_fails, rule_follows}
 use Rattle.relation_proving.specs.declared.candidate.Candidate.TheVariants.{Asks, Apart}
+use Rattle.relation_proving.specs.declared.told.Blame.{Blame}
 use Rattle.relation_proving.specs.declared.told.Told.{Told}
 use Rattle.relation_proving.specs.declared.told.Told.TheVariants.{Yes, No, Maybe}
 use Rattle.relation_proving.specs.declared.searching.Round.TheVariants.{Proved, Failed}
+use Rattle.relation_proving.specs.declared.searching.Verdict.{Verdict}
+use Rattle.relation_proving.specs.declared.searching.Verdict.TheVariants.{Proven, Refuted, Untold}
 use Rattle.relation_proving.specs.Candidates.{MayAsk, MayTry, OpensAsking, TellsCandidate}
 use Rattle.relation_proving.specs.Candidates.{IsFirstOrderAt, IsFirstOrderClause, IsFirstOrderRule}
 use Rattle.relation_proving.specs.RuleTerms.{MayUse}
 use Rattle.relation_proving.specs.Telling.{GoesOn, IsBack, IsExact, goal_tree, TellsGoal, TellsAll, TellsRule}
-use Rattle.relation_proving.specs.Telling.{IsProved}
+use Rattle.relation_proving.specs.Telling.{IsProved, IsProvedBy, rule_at, KnowsBlame, TellsYes}
 use Rattle.relation_proving.specs.RuleTerms.{IsRuleOf}
 use Rattle.relation_proving.specs.Searching.{TellsRound}
 use Rattle.relation_proving.proofs.Candidates.{clauses_stay}
@@ -57,37 +60,39 @@ module _ {Key Id Name : Type 0} where
     rules_then : (rs : List Rule) → AllZip (IsRuleOf c) ks rs → AllZip (IsRuleOf d) ks rs
     rules_then rs x = rules_on c d (back_goes c d b) ks rs uses x
 
-    proved_back : (rs : List Rule) → IsProved d e ks env rs (one (goal_tree d g)) → IsProved c e ks env rs (one (goal_tree c g))
-    proved_back rs h =
-        subst (λ z. Proves (items_of c.meaning) ((c.meaning).param_env env) (e.store).universe [] rs [] c.store (one z)
-        e.store) same_goal
-        (subst (λ z. Proves (items_of c.meaning) ((c.meaning).param_env env) (e.store).universe [] rs [] z
-        (one (goal_tree d g)) e.store) (b.same).store
-        (subst₂ (λ x y. Proves x y (e.store).universe [] rs [] d.store (one (goal_tree d g)) e.store)
+    proved_back : (rs : List Rule) (r : Rule) → IsProvedBy d e ks env rs r g → IsProvedBy c e ks env rs r g
+    proved_back rs r h =
+        subst (λ z. ProvesBy (items_of c.meaning) ((c.meaning).param_env env) (e.store).universe [] rs [] c.store
+        e.store r z) same_goal
+        (subst (λ z. ProvesBy (items_of c.meaning) ((c.meaning).param_env env) (e.store).universe [] rs [] z e.store r
+        (goal_tree d g)) (b.same).store
+        (subst₂ (λ x y. ProvesBy x y (e.store).universe [] rs [] d.store e.store r (goal_tree d g))
         (items_stay b.grown) ((b.grown).param_env env known_env) h))
 
-    pub goal_back : (told : Told) → TellsGoal d e ks env g told → TellsGoal c e ks env g told
-    goal_back Yes t = (
+    pub goal_back : (told : Told Key) → TellsGoal d e ks env g told → TellsGoal c e ks env g told
+    goal_back (Yes i) t = (
+      t.0,
       λ u rs x f.
-          let s = t.0 u rs (exact_back c d b ks u rs uses x) (first_order_then f) in
+          let s = t.1 u rs (exact_back c d b ks u rs uses x) (first_order_then f) in
           record {
             did = subst (λ z. Did u [] rs c.store (goal z) (yes e.store)) same_goal
                 (subst (λ z. Did u [] rs z (goal (goal_tree d g)) (yes e.store)) (b.same).store s.did);
             store = s.store;
           },
-      λ rs x. proved_back rs (t.1 rs (rules_then rs x)),
+      λ rs x. proved_back rs (rule_at rs i) (t.2 rs (rules_then rs x)),
     )
-    goal_back No t = (
+    goal_back (No named) t = (
       back_through c d e b t.0,
       λ u rs x f. subst (λ z. Did u [] rs c.store (goal z) no) same_goal
           (subst (λ z. Did u [] rs z (goal (goal_tree d g)) no) (b.same).store
           (t.1 u rs (exact_back c d b ks u rs uses x) (first_order_then f))),
+      t.2,
     )
     goal_back (Maybe why) t = back_through c d e b t
 
-    pub rule_back : (k : Binder Key (ClausesKey Key)) → MayUse c k → (told : Told) → TellsRule d e ks env k g told →
+    pub rule_back : (k : Binder Key (ClausesKey Key)) → MayUse c k → (told : Verdict Key) → TellsRule d e ks env k g told →
         TellsRule c e ks env k g told
-    rule_back k may Yes t = (
+    rule_back k may Proven t = (
       λ u rs r x f i h.
           let s = t.0 u rs r (exact_back c d b ks u rs uses x) (rule_first_order c d (back_goes c d b) k r may f) i
           (first_order_then h) in
@@ -96,13 +101,16 @@ module _ {Key Id Name : Type 0} where
                 (subst (λ z. FollowsBy u [] rs z e.store r (goal_tree d g)) (b.same).store s.follows);
             store = s.store;
           },
-      λ rs r x f i. proved_back rs (t.1 rs r (rules_then rs x) (rule_on c d (back_goes c d b) k r may f) i),
+      λ rs r x f i. proved_back rs r (t.1 rs r (rules_then rs x) (rule_on c d (back_goes c d b) k r may f) i),
     )
-    rule_back k may No t = λ u rs r x f i h. subst (λ z. Did u [] rs c.store (rule r z) no) same_goal
-        (subst (λ z. Did u [] rs z (rule r (goal_tree d g)) no) (b.same).store
-        (t u rs r (exact_back c d b ks u rs uses x) (rule_first_order c d (back_goes c d b) k r may f) i
-        (first_order_then h)))
-    rule_back k may (Maybe why) t = tt
+    rule_back k may (Refuted named) t = (
+      λ u rs r x f i h. subst (λ z. Did u [] rs c.store (rule r z) no) same_goal
+          (subst (λ z. Did u [] rs z (rule r (goal_tree d g)) no) (b.same).store
+          (t.0 u rs r (exact_back c d b ks u rs uses x) (rule_first_order c d (back_goes c d b) k r may f) i
+          (first_order_then h))),
+      t.1,
+    )
+    rule_back k may (Untold why) t = tt
 
   -- Of a goal and a rule that was tried, by what is told of what it asks for.
   module _ (c d e : Context Key Id Name) (env : ParamEnvKey Key) (known_env : KnowsEnv c env)
@@ -118,17 +126,27 @@ module _ {Key Id Name : Type 0} where
 
     by_rule : (asks : List (ClauseKey Key)) → GoesOn d e → (rs : List Rule) (r : Rule) → Contains rs r →
         OpensAsking c d env g r asks → IsProved d e ks env rs (all (map (goal_tree d) asks)) →
-        IsProved c e ks env rs (one (goal_tree c g))
-    by_rule asks then rs r i o h = took c.store o.opened d.store e.store (c.store).universe r o.vars (goal_tree c g) i
-        ((goes_through c d e on then).later).universe_stands o.opens o.relates o.shrinks (stands_first d.store r o.vars)
-        (subst (λ z. Proves (items_of c.meaning) ((c.meaning).param_env env) (e.store).universe [] rs [] d.store (all z)
-        e.store) o.asks_are
-        (subst₂ (λ x y. Proves x y (e.store).universe [] rs [] d.store (all (map (goal_tree d) asks)) e.store)
-        (items_stay on.grown) ((on.grown).param_env env known_env) h))
+        IsProvedBy c e ks env rs r g
+    by_rule asks then rs r i o h = record {
+      there = i;
+      opened = o.opened;
+      middle = d.store;
+      universe = (c.store).universe;
+      is_named = ((goes_through c d e on then).later).universe_stands;
+      vars = o.vars;
+      opens = o.opens;
+      relates = o.relates;
+      shrinks = o.shrinks;
+      stands = stands_first d.store r o.vars;
+      asks = subst (λ z. Proves (items_of c.meaning) ((c.meaning).param_env env) (e.store).universe [] rs [] d.store
+          (all z) e.store) o.asks_are
+          (subst₂ (λ x y. Proves x y (e.store).universe [] rs [] d.store (all (map (goal_tree d) asks)) e.store)
+          (items_stay on.grown) ((on.grown).param_env env known_env) h);
+    }
 
-    pub by_asks : (asks : Vec (ClauseKey Key)) → TellsCandidate c env k g d (Asks asks) → GoesOn d e → (told : Told) →
-        TellsAll d e ks env asks.items told → TellsRule c e ks env k g told
-    by_asks asks t then Yes h = (
+    pub by_asks : (asks : Vec (ClauseKey Key)) → TellsCandidate c env k g d (Asks asks) → GoesOn d e →
+        (told : Verdict Key) → TellsAll d e ks env asks.items told → TellsRule c e ks env k g told
+    by_asks asks t then Proven h = (
       λ u rs r x f i o.
           let a = t.1 u r (may_try u rs r x f o) in
           let s = h.0 u rs (exact_on c d on ks u rs uses a.store x) a.asks_first_order in
@@ -140,21 +158,27 @@ module _ {Key Id Name : Type 0} where
           },
       λ rs r x f i. by_rule asks.items then rs r i (t.2 r f) (h.1 rs (rules_on c d on ks rs uses x)),
     )
-    by_asks asks t then No h = λ u rs r x f i o.
-        let a = t.1 u r (may_try u rs r x f o) in
-        rule_fails u [] rs c.store a.opened r a.vars (goal_tree c g) (inst a.vars 0 r.gives)
-        (map (goal_tree d) asks.items) a.opens ((f.rule).is_rule).shadowed_by_none refl a.asks_are d.store a.exact
-        (h u rs (exact_on c d on ks u rs uses a.store x) a.asks_first_order)
-    by_asks asks t then (Maybe why) h = tt
+    by_asks asks t then (Refuted named) h = (
+      λ u rs r x f i o.
+          let a = t.1 u r (may_try u rs r x f o) in
+          rule_fails u [] rs c.store a.opened r a.vars (goal_tree c g) (inst a.vars 0 r.gives)
+          (map (goal_tree d) asks.items) a.opens ((f.rule).is_rule).shadowed_by_none refl a.asks_are d.store a.exact
+          (h.0 u rs (exact_on c d on ks u rs uses a.store x) a.asks_first_order),
+      h.1,
+    )
+    by_asks asks t then (Untold why) h = tt
 
-    pub by_apart : TellsCandidate c env k g d Apart → TellsRule c d ks env k g No
-    by_apart t = λ u rs r x f i o.
-        let a = t u r (may_try u rs r x f o) in
-        rule_is_apart u [] rs c.store a.opened r a.vars (goal_tree c g) (inst a.vars 0 r.gives)
-        (map (inst a.vars 0) r.asks) a.opens ((f.rule).is_rule).shadowed_by_none refl refl a.none
+    pub by_apart : TellsCandidate c env k g d Apart → TellsRule c d ks env k g (Refuted None)
+    by_apart t = (
+      λ u rs r x f i o.
+          let a = t u r (may_try u rs r x f o) in
+          rule_is_apart u [] rs c.store a.opened r a.vars (goal_tree c g) (inst a.vars 0 r.gives)
+          (map (inst a.vars 0) r.asks) a.opens ((f.rule).is_rule).shadowed_by_none refl refl a.none,
+      tt,
+    )
 
     pub by_asks_result : {F : Type 0} (asks : Vec (ClauseKey Key)) → TellsCandidate c env k g d (Asks asks) →
-        GoesOn d e → (result : Result Told F) → IfOk result (TellsAll d e ks env asks.items) →
+        GoesOn d e → (result : Result (Verdict Key) F) → IfOk result (TellsAll d e ks env asks.items) →
         IfOk result (TellsRule c e ks env k g)
     by_asks_result asks t then (Ok told) h = by_asks asks t then told h
     by_asks_result asks t then (Err f) h = tt
@@ -197,7 +221,7 @@ module _ {Key Id Name : Type 0} where
       proves = λ rs x after u l p. p;
     }
 
-    pub asking_ends : (d : Context Key Id Name) → AsksOn c d ks env asks [] → TellsAll c d ks env asks Yes
+    pub asking_ends : (d : Context Key Id Name) → AsksOn c d ks env asks [] → TellsAll c d ks env asks Proven
     asking_ends d a = (
       λ u rs x f.
           let l = a.told u rs x f in
@@ -210,7 +234,7 @@ module _ {Key Id Name : Type 0} where
 
     -- Nothing is left.
     pub asking_ended : (d : Context Key Id Name) (left : List (ClauseKey Key)) → length left ≤ 0 →
-        AsksOn c d ks env asks left → TellsAll c d ks env asks Yes
+        AsksOn c d ks env asks left → TellsAll c d ks env asks Proven
     asking_ended d [] l a = asking_ends d a
     asking_ended d (g ∷ gs) l a = let none : suc (length gs) ≤ 0 = l in absurd (omega (arith, none))
 
@@ -264,14 +288,26 @@ module _ {Key Id Name : Type 0} where
             proves = proves_then i t;
           }
 
-      pub asking_fails : TellsRound d e ks env left Failed → TellsAll c e ks env asks No
-      asking_fails t = λ u rs x f.
-          let l = a.told u rs x f in
-          asks_fail u [] rs c.store d.store (map (goal_tree c) asks) (map (goal_tree d) left)
-          (map (goal_tree d) (remove left t.0)) (goal_tree d t.2.0) l.leaves
-          (without_at (goal_tree d) left t.0 t.2.0 t.1 t.2.1)
-          (t.2.2.1 u rs (exact_then u rs x l.store)
-          (is_goal t.0 t.2.0 t.1 t.2.1 (λ g. IsFirstOrderClause (goal_tree d g)) l.first_order))
+      pub asking_fails : (blame : Blame Key) → TellsRound d e ks env left (Failed blame) →
+          TellsAll c e ks env asks (Refuted (Some blame))
+      asking_fails blame t = (
+        λ u rs x f.
+            let l = a.told u rs x f in
+            let i = t.1.0 in
+            let g = t.1.2.0 in
+            asks_fail u [] rs c.store d.store (map (goal_tree c) asks) (map (goal_tree d) left)
+            (map (goal_tree d) (remove left i)) (goal_tree d g) l.leaves
+            (without_at (goal_tree d) left i g t.1.1 t.1.2.1)
+            (t.1.2.2 u rs (exact_then u rs x l.store)
+            (is_goal i g t.1.1 t.1.2.1 (λ z. IsFirstOrderClause (goal_tree d z)) l.first_order)),
+        t.0,
+      )
+
+  -- What a no names is known.
+  pub named_known : (c d : Context Key Id Name) (ks : List (Binder Key (ClausesKey Key))) (env : ParamEnvKey Key)
+      (g : ClauseKey Key) (named : Option (Blame Key)) (told : Told Key) → told ≡ No named →
+      TellsGoal c d ks env g told → IfSome named (KnowsBlame d ks)
+  named_known c d ks env g named told is t = (subst (TellsGoal c d ks env g) is t).2
 
   -- A goal of a list that was asked in a context which is back.
   module _ (c d e : Context Key Id Name) (b : IsBack c d) (ks : List (Binder Key (ClausesKey Key)))
@@ -280,8 +316,14 @@ module _ {Key Id Name : Type 0} where
     may_ask : MayAsk c g
     may_ask = subst (MayAsk c) (sym is) (All-get_or (MayAsk c) gs i g l asked)
 
-    pub round_proved : TellsGoal d e ks env g Yes → TellsRound c e ks env gs (Proved i)
-    round_proved t = (l, (g, is, goal_back c d e b ks env known_env uses g may_ask Yes t))
+    -- A goal that was proved by a rule was proved.
+    was_proved : (j : ℕ) → TellsGoal c e ks env g (Yes j) → TellsYes c e ks env g
+    was_proved j t = (t.1, λ rs x. proved_by_one (t.2 rs x))
 
-    pub round_failed : TellsGoal d e ks env g No → TellsRound c e ks env gs Failed
-    round_failed t = (i, l, (g, is, goal_back c d e b ks env known_env uses g may_ask No t))
+    pub round_proved : (j : ℕ) → TellsGoal d e ks env g (Yes j) → TellsRound c e ks env gs (Proved i)
+    round_proved j t = (l, (g, is, was_proved j (goal_back c d e b ks env known_env uses g may_ask (Yes j) t)))
+
+    pub round_failed : (named : Option (Blame Key)) → TellsGoal d e ks env g (No named) →
+        (f : Context Key Id Name) (blame : Blame Key) → KnowsBlame f ks blame → TellsRound c f ks env gs (Failed blame)
+    round_failed named t f blame k =
+        (k, (i, l, (g, is, (goal_back c d e b ks env known_env uses g may_ask (No named) t).1)))

@@ -39,7 +39,7 @@ use Rattle.relation_proving.specs.Candidates.{IsFirstOrderClause, MayAsk}
 use Rattle.relation_proving.specs.RuleTerms.{MayUse}
 use Rattle.relation_proving.specs.Telling.{goal_tree, TellsRule}
 use Rattle.relation_proving.specs.Subjects.{args_of, GivesAnother}
-use Rattle.relation_proving.specs.declared.told.Told.TheVariants.{No}
+use Rattle.relation_proving.specs.declared.searching.Verdict.TheVariants.{Refuted}
 use Rattle.relation_proving.proofs.OtherSubjects.{apart_by_subject, first_given, gives_is}
 use Rattle.relation_proving.proofs.Unbound.{body_in}
 
@@ -273,6 +273,9 @@ module _ {Key Id Name : Type 0} (c : Context Key Id Name) where
 -- A rule that never gives what a goal asks for fails.
 module _ {Key Id Name : Type 0} (c d : Context Key Id Name) (ks : List (Binder Key (ClausesKey Key)))
     (e : ParamEnvKey Key) (k : Binder Key (ClausesKey Key)) (g : ClauseKey Key) where
-  pub never_fails : NeverGives c k g → TellsRule c d ks e k g No
-  never_fails n = λ u rs r x f i h. no_form c.store r (goal_tree c g) (λ s xs sol fits named same.
-      n u r (record { store = x.store; rule = f; goal = h }) s xs sol fits same)
+  pub never_fails : NeverGives c k g → TellsRule c d ks e k g (Refuted None)
+  never_fails n = (
+    λ u rs r x f i h. no_form c.store r (goal_tree c g) (λ s xs sol fits named same.
+        n u r (record { store = x.store; rule = f; goal = h }) s xs sol fits same),
+    tt,
+  )

@@ -1,6 +1,7 @@
 -- What may be asked and used stays so in a later context, and what was first-order is.
 use Rattle.std.proofs.Common.{◌≡◌, ℕ, zero, suc, ◌<◌, List, [], ◌∷◌, refl, sym, ap, subst, All, IsTrue, length}
-use Rattle.std.proofs.Common.{get_or, arith}
+use Rattle.std.proofs.Common.{get_or, arith, Option, Some, None}
+use Rattle.std.specs.Prelude.{IfSome}
 use Rattle.std.specs.List.{AllZip}
 use Rattle.std.proofs.lemmas.List.Elements.{All-head, All-tail}
 use Rattle.relation_terms.specs.declared.terms.binder.Binder.{Binder}
@@ -10,7 +11,7 @@ use Rattle.relation_terms.specs.declared.terms.keys.ParamEnvKey.{ParamEnvKey}
 use Rattle.relation_terms.specs.Trees.{known, Leaves}
 use Rattle.relation_terms.specs.Meaning.{Meaning, Extends}
 use Rattle.relation_terms.proofs.Binders.{under_stays}
-use Rattle.relation_terms.proofs.Stays.{stays_same, extends_on, knows_param_env}
+use Rattle.relation_terms.proofs.Stays.{stays_same, extends_on, knows_clause, knows_param_env}
 use Rattle.relation_semantics.specs.Bound.{IsWellBound}
 use Rattle.relation_semantics.specs.Contexts.{Context}
 use Rattle.relation_semantics.specs.Relation.{IsValueLeaf}
@@ -23,7 +24,8 @@ use Rattle.kept_records.proofs.Kept.{same_through}
 use Rattle.relation_proving.specs.RuleTerms.{IsRule, IsRuleOf, rule_tree}
 use Rattle.relation_proving.specs.Candidates.{MayAsk, IsFirstOrderAt, IsFirstOrderClause, IsFirstOrderRule}
 use Rattle.relation_proving.specs.RuleTerms.{MayUse}
-use Rattle.relation_proving.specs.Telling.{MayProve, GoesOn, IsBack, IsExact, goal_tree}
+use Rattle.relation_proving.specs.Telling.{MayProve, GoesOn, IsBack, IsExact, KnowsBlame, goal_tree}
+use Rattle.relation_proving.specs.declared.told.Blame.{Blame}
 use Rattle.relation_proving.proofs.Candidates.{ask_later}
 
 -- Two lists that go together place by place: they are as long, and so do their members at a place.
@@ -72,6 +74,12 @@ module _ {Key Id Name : Type 0} where
     lawful = p.lawful;
     grown = p.grown;
   }
+
+  -- A goal that is named stays known.
+  pub blame_on : (c d : Context Key Id Name) → Extends c.meaning d.meaning → (ks : List (Binder Key (ClausesKey Key)))
+      (b : Option (Blame Key)) → IfSome b (KnowsBlame c ks) → IfSome b (KnowsBlame d ks)
+  blame_on c d e ks None h = tt
+  blame_on c d e ks (Some b) h = record { is_known = knows_clause e b.goal h.is_known; is_asked = h.is_asked }
 
   rule_stays : (m n : Meaning Key Id Name) → Extends m n → (k : Binder Key (ClausesKey Key)) →
       IsTrue (known (rule_tree m k)) → rule_tree n k ≡ rule_tree m k

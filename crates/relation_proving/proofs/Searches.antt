@@ -1,7 +1,7 @@
 -- What is known of the rules for a goal, as they are gone through.
 use Rattle.std.proofs.Common.{◌≡◌, ◌⊎◌, ℕ, ◌+◌, ◌<◌, ◌≤◌, List, [], ◌∷◌, ◌++◌, refl, sym, subst, All, length}
-use Rattle.std.proofs.Common.{get_or, take, arith, inl, inr, Bool, true, false}
-use Rattle.std.specs.Prelude.{Contains}
+use Rattle.std.proofs.Common.{get_or, take, arith, inl, inr, Bool, true, false, Option, Some, None}
+use Rattle.std.specs.Prelude.{Contains, IfSome}
 use Rattle.std.specs.List.{AllZip}
 use Rattle.std.proofs.lemmas.List.{take_all, take_more}
 use Rattle.std.proofs.lemmas.List.Elements.{All-get_or, Contains-get_or}
@@ -17,13 +17,15 @@ use Rattle.relation_semantics.specs.Lawful.{items_of}
 use Rattle.relation_semantics.specs.Steps.{IsLater}
 use Rattle.relation_semantics.specs.Stores.{IsSound}
 use Rattle.kept_records.specs.Records.{SameRecord, IsRecordOf, StandsOn}
-use Rattle.relation_solver.specs.Rules.{Rule, given, one}
-use Rattle.relation_solver.specs.Traces.{Did, goal, rule, yes, no, FollowsBy, Proves, took_first}
+use Rattle.relation_solver.specs.Rules.{Rule, given}
+use Rattle.relation_solver.specs.Traces.{Did, goal, rule, yes, no, FollowsBy, ProvesBy, took_first}
 use Rattle.relation_solver.proofs.Going.{AllFail, AllOthersFail, one_more_fails, first_found, one_other_fails, all_fail}
 use Rattle.relation_solver.proofs.Going.{takes_alone}
 use Rattle.kept_records.proofs.Kept.{may_put_back, put_back_is, put_back_means}
+use Rattle.relation_proving.specs.declared.told.Blame.{Blame}
 use Rattle.relation_proving.specs.declared.told.Told.{Told}
-use Rattle.relation_proving.specs.declared.told.Told.TheVariants.{Yes, No, Maybe}
+use Rattle.relation_proving.specs.declared.searching.Verdict.{Verdict}
+use Rattle.relation_proving.specs.declared.searching.Verdict.TheVariants.{Proven, Refuted, Untold}
 use Rattle.relation_proving.specs.declared.searching.Tried.{Tried}
 use Rattle.relation_proving.specs.declared.searching.Tried.TheVariants.{Follows, Fails, Unclear}
 use Rattle.relation_proving.specs.declared.searching.Search.{Search}
@@ -31,16 +33,17 @@ use Rattle.relation_proving.specs.declared.searching.Search.TheVariants.{Nothing
 use Rattle.relation_proving.specs.Candidates.{MayAsk, IsFirstOrderAt, IsFirstOrderClause, IsFirstOrderRule}
 use Rattle.relation_proving.specs.RuleTerms.{MayUse}
 use Rattle.relation_proving.specs.Telling.{GoesOn, IsBack, IsExact, goal_tree, TellsGoal, TellsRule}
-use Rattle.relation_proving.specs.Telling.{SaysYesBy, IsProved}
+use Rattle.relation_proving.specs.Telling.{SaysYesBy, IsProvedBy, KnowsBlame, rule_at}
 use Rattle.relation_proving.specs.RuleTerms.{IsRuleOf}
-use Rattle.relation_proving.specs.Searching.{search_after, told_by, settled, HasKept, KeepsTold, MaySettle, TellsTried}
-use Rattle.relation_proving.proofs.GoingOn.{zip_length, zip_at, goes_through, back_through, back_goes}
+use Rattle.relation_proving.specs.Searching.{first_of, search_after, told_by, settled, HasKept, KeepsTold, MaySettle, TellsTried}
+use Rattle.relation_proving.proofs.GoingOn.{zip_length, zip_at, goes_through, back_through, back_goes, blame_on}
 use Rattle.relation_proving.proofs.Answering.{rule_back}
 use Rattle.relation_proving.proofs.OneValue.{HasOneValue}
 
--- Which rule a place's key is, as a tree.
-abbrev pub rule_at : List Rule → ℕ → Rule
-rule_at rs n = get_or rs n (given nil)
+first_known : {Key : Type 0} (P : Blame Key → Type 0) (a b : Option (Blame Key)) → IfSome a P → IfSome b P →
+    IfSome (first_of a b) P
+first_known P (Some a) b h k = h
+first_known P None b h k = k
 
 module _ {S R Key Id Name : Type 0} (state : S → Context Key Id Name) (with_record : S → R → S) where
   -- A record that was kept may be put back also once the interner has come to know more.
@@ -63,23 +66,23 @@ module _ {S R Key Id Name : Type 0} (state : S → Context Key Id Name) (with_re
       pub others : HasOneValue c.store (goal_tree c g) ⊎ AllOthersFail u [] rs c.store by (goal_tree c g) (take n rs)
 
     -- What is known of the first n rules.
-    abbrev pub TellsSearch : S → ℕ → Search R → Type 0
-    TellsSearch now n Nothing = (u : ℕ) (rs : List Rule) → IsExact u c ks rs → IsFirstOrderClause (goal_tree c g) →
-        AllFail u [] rs c.store (goal_tree c g) (take n rs)
-    TellsSearch now n (Found r) = (h : HasKept state with_record c now r) × ((u : ℕ) (rs : List Rule) →
-        IsExact u c ks rs → IsFirstOrderClause (goal_tree c g) → Only h.where_kept n u rs) ×
-        ((rs : List Rule) → AllZip (IsRuleOf c) ks rs → IsProved c (state h.where_kept) ks env rs (one (goal_tree c g)))
+    abbrev pub TellsSearch : S → ℕ → Search R Key → Type 0
+    TellsSearch now n (Nothing named) = IfSome named (KnowsBlame (state now) ks) × ((u : ℕ) (rs : List Rule) →
+        IsExact u c ks rs → IsFirstOrderClause (goal_tree c g) → AllFail u [] rs c.store (goal_tree c g) (take n rs))
+    TellsSearch now n (Found i r) = (h : HasKept state with_record c now r) × ((u : ℕ) (rs : List Rule) →
+        IsExact u c ks rs → IsFirstOrderClause (goal_tree c g) → Only h.where_kept n u rs) × (i < length ks) ×
+        ((rs : List Rule) → AllZip (IsRuleOf c) ks rs → IsProvedBy c (state h.where_kept) ks env rs (rule_at rs i) g)
     TellsSearch now n (Open why) = Unit {0}
 
-    pub record Searches (now : S) (n : ℕ) (search : Search R) : Type 0 where
+    pub record Searches (now : S) (n : ℕ) (search : Search R Key) : Type 0 where
       pub back : IsBack c (state now)
       pub tells : TellsSearch now n search
 
     none_fails : (u : ℕ) (rs : List Rule) → AllFail u [] rs c.store (goal_tree c g) (take 0 rs)
     none_fails u rs q x = let below : x.0 < 0 = x.1 in absurd (omega (arith, below))
 
-    pub search_begins : (now : S) → IsBack c (state now) → Searches now 0 Nothing
-    search_begins now b = record { back = b; tells = λ u rs x f. none_fails u rs }
+    pub search_begins : (now : S) → IsBack c (state now) → Searches now 0 (Nothing None)
+    search_begins now b = record { back = b; tells = (tt, λ u rs x f. none_fails u rs) }
 
     -- One rule more.
     module _ (now then : S) (n : ℕ) (k : Binder Key (ClausesKey Key)) (l : n < length ks) (is : k ≡ get_or ks n k)
@@ -109,21 +112,21 @@ module _ {S R Key Id Name : Type 0} (state : S → Context Key Id Name) (with_re
       in_rules_of rs x =
           let same = zip_length (IsRuleOf c) ks rs x in Contains-get_or rs n (given nil) (omega (arith, l, same))
 
-      fails : (d : Context Key Id Name) → TellsRule (state now) d ks env k g No → (u : ℕ) (rs : List Rule) →
-          IsExact u c ks rs → IsFirstOrderClause (goal_tree c g) →
+      fails : (d : Context Key Id Name) (named : Option (Blame Key)) →
+          TellsRule (state now) d ks env k g (Refuted named) → (u : ℕ) (rs : List Rule) → IsExact u c ks rs → IsFirstOrderClause (goal_tree c g) →
           Did u [] rs c.store (rule (rule_at rs n) (goal_tree c g)) no
-      fails d t u rs x f = rule_back c (state now) d b ks env known_env uses g asked k may_use No t u rs (rule_at rs n) x
-          (is_rule u rs x) (in_rules u rs x) f
+      fails d named t u rs x f = (rule_back c (state now) d b ks env known_env uses g asked k may_use (Refuted named) t).0
+          u rs (rule_at rs n) x (is_rule u rs x) (in_rules u rs x) f
 
-      follows : (d : Context Key Id Name) → TellsRule (state now) d ks env k g Yes → (u : ℕ) (rs : List Rule) →
+      follows : (d : Context Key Id Name) → TellsRule (state now) d ks env k g Proven → (u : ℕ) (rs : List Rule) →
           IsExact u c ks rs → IsFirstOrderClause (goal_tree c g) → SaysYesBy c d ks env g u rs (rule_at rs n)
-      follows d t u rs x f = (rule_back c (state now) d b ks env known_env uses g asked k may_use Yes t).0 u rs
+      follows d t u rs x f = (rule_back c (state now) d b ks env known_env uses g asked k may_use Proven t).0 u rs
           (rule_at rs n) x (is_rule u rs x) (in_rules u rs x) f
 
-      proved : (d : Context Key Id Name) → TellsRule (state now) d ks env k g Yes → (rs : List Rule) →
-          AllZip (IsRuleOf c) ks rs → IsProved c d ks env rs (one (goal_tree c g))
-      proved d t rs x = (rule_back c (state now) d b ks env known_env uses g asked k may_use Yes t).1 rs (rule_at rs n) x
-          (is_rule_of rs x) (in_rules_of rs x)
+      proved : (d : Context Key Id Name) → TellsRule (state now) d ks env k g Proven → (rs : List Rule) →
+          AllZip (IsRuleOf c) ks rs → IsProvedBy c d ks env rs (rule_at rs n) g
+      proved d t rs x = (rule_back c (state now) d b ks env known_env uses g asked k may_use Proven t).1 rs
+          (rule_at rs n) x (is_rule_of rs x) (in_rules_of rs x)
 
       abbrev kept_before : (r : R) → HasKept state with_record (state now) then r → HasKept state with_record c then r
       kept_before r h = record {
@@ -144,20 +147,21 @@ module _ {S R Key Id Name : Type 0} (state : S → Context Key Id Name) (with_re
 
       -- It follows by this one, which is enough.
       first_is : HasOneValue c.store (goal_tree c g) → (r : R) →
-          TellsTried state with_record (state now) then ks env k g (Follows r) → TellsSearch then (n + 1) (Found r)
+          TellsTried state with_record (state now) then ks env k g (Follows r) → TellsSearch then (n + 1) (Found n r)
       first_is o r t = (
         kept_before r t.0,
         λ u rs x f.
             let p = follows (state (t.0).where_kept) t.1 u rs x f in
             record { by = rule_at rs n; follows = p.follows; store = p.store; others = inl o },
+        l,
         proved (state (t.0).where_kept) t.1,
       )
 
-      after : (enough : Bool) → (enough ≡ true → HasOneValue c.store (goal_tree c g)) → (search : Search R)
-          (tried : Tried R) → TellsSearch now n search →
+      after : (enough : Bool) → (enough ≡ true → HasOneValue c.store (goal_tree c g)) → (search : Search R Key)
+          (tried : Tried R Key) → TellsSearch now n search →
           TellsTried state with_record (state now) then ks env k g tried →
-          TellsSearch then (n + 1) (search_after enough search tried)
-      after enough o Nothing (Follows r) s t = (
+          TellsSearch then (n + 1) (search_after enough n search tried)
+      after enough o (Nothing named) (Follows r) s t = (
         kept_before r t.0,
         λ u rs x f.
             let p = follows (state (t.0).where_kept) t.1 u rs x f in
@@ -166,24 +170,30 @@ module _ {S R Key Id Name : Type 0} (state : S → Context Key Id Name) (with_re
               follows = p.follows;
               store = p.store;
               others = inr (subst (AllOthersFail u [] rs c.store (rule_at rs n) (goal_tree c g)) (sym (one_more u rs x))
-                  (first_found u [] rs c.store (goal_tree c g) (take n rs) (rule_at rs n) (s u rs x f)));
+                  (first_found u [] rs c.store (goal_tree c g) (take n rs) (rule_at rs n) (s.1 u rs x f)));
             },
+        l,
         proved (state (t.0).where_kept) t.1,
       )
-      after enough o Nothing Fails s t = λ u rs x f.
-          subst (AllFail u [] rs c.store (goal_tree c g)) (sym (one_more u rs x))
-          (one_more_fails u [] rs c.store (goal_tree c g) (take n rs) (rule_at rs n) (s u rs x f)
-          (fails (state then) t u rs x f))
-      after enough o Nothing (Unclear why) s t = tt
-      after true o (Found r) tried s t = (
+      after enough o (Nothing named) (Fails again) s t = (
+        first_known (KnowsBlame (state then) ks) named again (blame_on (state now) (state then) b'.grown ks named s.0)
+            t.1,
+        λ u rs x f.
+            subst (AllFail u [] rs c.store (goal_tree c g)) (sym (one_more u rs x))
+            (one_more_fails u [] rs c.store (goal_tree c g) (take n rs) (rule_at rs n) (s.1 u rs x f)
+            (fails (state then) again t u rs x f)),
+      )
+      after enough o (Nothing named) (Unclear why) s t = tt
+      after true o (Found i r) tried s t = (
         kept_on c now then r b'.grown s.0,
         λ u rs x f.
             let p = s.1 u rs x f in
             record { by = p.by; follows = p.follows; store = p.store; others = inl (o refl) },
         s.2,
+        s.3,
       )
-      after false o (Found r) (Follows q) s t = tt
-      after false o (Found r) Fails s t = (
+      after false o (Found i r) (Follows q) s t = tt
+      after false o (Found i r) (Fails again) s t = (
         kept_on c now then r b'.grown s.0,
         λ u rs x f.
             let p = s.1 u rs x f in
@@ -191,20 +201,21 @@ module _ {S R Key Id Name : Type 0} (state : S → Context Key Id Name) (with_re
               by = p.by;
               follows = p.follows;
               store = p.store;
-              others = others_stand p.by u rs x (fails (state then) t u rs x f) p.others;
+              others = others_stand p.by u rs x (fails (state then) again t u rs x f) p.others;
             },
         s.2,
+        s.3,
       )
-      after false o (Found r) (Unclear why) s t = tt
-      after enough o (Open why) Fails s t = tt
+      after false o (Found i r) (Unclear why) s t = tt
+      after enough o (Open why) (Fails again) s t = tt
       after enough o (Open why) (Unclear again) s t = tt
       after true o (Open why) (Follows q) s t = first_is (o refl) q t
       after false o (Open why) (Follows q) s t = tt
 
       pub search_goes_on : (enough : Bool) → (enough ≡ true → HasOneValue c.store (goal_tree c g)) →
-          (search : Search R) (tried : Tried R) → TellsSearch now n search →
+          (search : Search R Key) (tried : Tried R Key) → TellsSearch now n search →
           TellsTried state with_record (state now) then ks env k g tried →
-          Searches then (n + 1) (search_after enough search tried)
+          Searches then (n + 1) (search_after enough n search tried)
       search_goes_on enough o search tried s t = record {
         back = back_through c (state now) (state then) b b';
         tells = after enough o search tried s t;
@@ -218,21 +229,21 @@ module _ {S R Key Id Name : Type 0} (state : S → Context Key Id Name) (with_re
           let same = zip_length (IsFirstOrderRule c) ks rs x.rules in
           take_all n rs (omega (arith, all, same))
 
-      pub may_settle : (search : Search R) → TellsSearch now n search → MaySettle state with_record now search
-      may_settle Nothing s = tt
-      may_settle (Found r) s = may_put_back state with_record r (s.0).where_kept now (s.0).is (stands r) (s.0).known
+      pub may_settle : (search : Search R Key) → TellsSearch now n search → MaySettle state with_record now search
+      may_settle (Nothing named) s = tt
+      may_settle (Found i r) s = may_put_back state with_record r (s.0).where_kept now (s.0).is (stands r) (s.0).known
       may_settle (Open why) s = tt
 
       put_back_same : (r : R) (h : HasKept state with_record c now r) →
           SameRecord (state h.where_kept) (state (with_record now r))
       put_back_same r h = put_back_is state with_record r h.where_kept now h.is (stands r) h.known
 
-      settled_goes : (search : Search R) → IsBack c (state now) → TellsSearch now n search →
+      settled_goes : (search : Search R Key) → IsBack c (state now) → TellsSearch now n search →
           GoesOn c (state (settled with_record now search))
-      settled_goes Nothing b s = back_goes c (state now) b
-      settled_goes (Found r) b s = record {
+      settled_goes (Nothing named) b s = back_goes c (state now) b
+      settled_goes (Found i r) b s = record {
         later = subst (IsLater c.store) (sym (put_back_same r s.0).store) ((s.0).goes_on).later;
-        lawful = may_settle (Found r) s;
+        lawful = may_settle (Found i r) s;
         grown = subst (Extends c.meaning) (sym (put_back_means state with_record r (s.0).where_kept now (s.0).is
             (stands r) (s.0).known)) b.grown;
       }
@@ -251,15 +262,17 @@ module _ {S R Key Id Name : Type 0} (state : S → Context Key Id Name) (with_re
           go (inr o) = takes_alone u [] rs c.store (state there).store p.by (goal_tree c g) p.follows
               (subst (AllOthersFail u [] rs c.store p.by (goal_tree c g)) (whole u rs x) o)
 
-      settled_tells : (search : Search R) → IsBack c (state now) → TellsSearch now n search →
+      settled_tells : (search : Search R Key) → IsBack c (state now) → TellsSearch now n search →
           TellsGoal c (state (settled with_record now search)) ks env g (told_by search)
-      settled_tells Nothing b s = (
+      settled_tells (Nothing named) b s = (
         b,
         λ u rs x f. all_fail u [] rs c.store (goal_tree c g)
-            (subst (AllFail u [] rs c.store (goal_tree c g)) (whole u rs x) (s u rs x f)),
+            (subst (AllFail u [] rs c.store (goal_tree c g)) (whole u rs x) (s.1 u rs x f)),
+        s.0,
       )
-      settled_tells (Found r) b s =
+      settled_tells (Found i r) b s =
           let same : (state (with_record now r)).store ≡ (state (s.0).where_kept).store = (put_back_same r s.0).store in (
+            s.2,
             λ u rs x f.
                 let o = s.1 u rs x f in
                 record {
@@ -267,17 +280,17 @@ module _ {S R Key Id Name : Type 0} (state : S → Context Key Id Name) (with_re
                       (takes_one (s.0).where_kept u rs ((s.0).goes_on).lawful x o);
                   store = subst (IsFirstOrderAt u) (sym same) o.store;
                 },
-            λ rs x. subst (λ z. Proves (items_of c.meaning) ((c.meaning).param_env env) z.universe [] rs [] c.store
-                (one (goal_tree c g)) z) (sym same) (s.2 rs x),
+            λ rs x. subst (λ z. ProvesBy (items_of c.meaning) ((c.meaning).param_env env) z.universe [] rs [] c.store z
+                (rule_at rs i) (goal_tree c g)) (sym same) (s.3 rs x),
           )
       settled_tells (Open why) b s = b
 
       -- So it is of what is answered.
-      module _ (search : Search R) (s : Searches now n search) (then : S) (is : then ≡ settled with_record now search) where
+      module _ (search : Search R Key) (s : Searches now n search) (then : S) (is : then ≡ settled with_record now search) where
         pub settles_goes : GoesOn c (state then)
         settles_goes = subst (λ z. GoesOn c (state z)) (sym is) (settled_goes search s.back s.tells)
 
-        pub settles_tells : (told : Told) → told ≡ told_by search → TellsGoal c (state then) ks env g told
+        pub settles_tells : (told : Told Key) → told ≡ told_by search → TellsGoal c (state then) ks env g told
         settles_tells told e = subst (TellsGoal c (state then) ks env g) (sym e)
             (subst (λ z. TellsGoal c (state z) ks env g (told_by search)) (sym is) (settled_tells search s.back s.tells))
 
@@ -285,18 +298,20 @@ module _ {S R Key Id Name : Type 0} (state : S → Context Key Id Name) (with_re
   module _ (c : Context Key Id Name) (ks : List (Binder Key (ClausesKey Key))) (env : ParamEnvKey Key)
       (k : Binder Key (ClausesKey Key)) (g : ClauseKey Key) (now then : S) (on : GoesOn c (state now))
       (grown : Extends (state now).meaning (state then).meaning) where
-    pub tried_tells : (told : Told) (tried : Tried R) → TellsRule c (state now) ks env k g told →
+    pub tried_tells : (told : Verdict Key) (tried : Tried R Key) → TellsRule c (state now) ks env k g told →
         KeepsTold state with_record now told tried → TellsTried state with_record c then ks env k g tried
-    tried_tells Yes (Follows r) t h =
+    tried_tells Proven (Follows r) t h =
         (record { where_kept = now; is = h; goes_on = on; known = grown }, t)
-    tried_tells No Fails t h = t
-    tried_tells (Maybe why) (Unclear again) t h = tt
-    tried_tells Yes Fails t h = absurd h
-    tried_tells Yes (Unclear again) t h = absurd h
-    tried_tells No (Follows r) t h = absurd h
-    tried_tells No (Unclear again) t h = absurd h
-    tried_tells (Maybe why) (Follows r) t h = absurd h
-    tried_tells (Maybe why) Fails t h = absurd h
+    tried_tells (Refuted named) (Fails again) t h =
+        subst (λ z. TellsRule c (state then) ks env k g (Refuted z)) h
+        (t.0, blame_on (state now) (state then) grown ks named t.1)
+    tried_tells (Untold why) (Unclear again) t h = tt
+    tried_tells Proven (Fails again) t h = absurd h
+    tried_tells Proven (Unclear again) t h = absurd h
+    tried_tells (Refuted named) (Follows r) t h = absurd h
+    tried_tells (Refuted named) (Unclear again) t h = absurd h
+    tried_tells (Untold why) (Follows r) t h = absurd h
+    tried_tells (Untold why) (Fails again) t h = absurd h
 
   -- The record that was kept before may be put back, and is what was then.
   module _ (before now then : S) (r : R) (is : IsRecordOf (state before) (state (with_record before r)))

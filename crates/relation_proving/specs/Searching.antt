@@ -5,10 +5,11 @@
 --   TellsRound c d ks e gs round          what is told of the goals of a list, asked one after another
 --   KeepsTold state with_record now     what was kept of an answer
 --   TellsTried ..                       what is told of a rule that was tried, once the record is put back
---   search_after enough search tried    what is known of the rules with one more
+--   first_of a b                        of two goals that are named the first
+--   search_after enough n search tried  what is known of the rules with one more, which is at place n
 --   told_by search                      what that tells of the goal
 --   settled with_record now search      the context once that is told
-use Rattle.std.specs.Prelude.{◌≡◌, ℕ, ◌<◌, Bool, true, false, List, length, get_or}
+use Rattle.std.specs.Prelude.{◌≡◌, ℕ, ◌<◌, Bool, true, false, List, length, get_or, Option, Some, None}
 use Rattle.relation_terms.specs.declared.terms.binder.Binder.{Binder}
 use Rattle.relation_terms.specs.declared.terms.keys.ClauseKey.{ClauseKey}
 use Rattle.relation_terms.specs.declared.terms.keys.ClausesKey.{ClausesKey}
@@ -16,11 +17,14 @@ use Rattle.relation_terms.specs.declared.terms.keys.ParamEnvKey.{ParamEnvKey}
 use Rattle.relation_terms.specs.Meaning.{Extends}
 use Rattle.relation_semantics.specs.Contexts.{Context}
 use Rattle.kept_records.specs.Records.{IsRecordOf}
-use Rattle.relation_proving.specs.Telling.{GoesOn, TellsGoal, TellsRule}
+use Rattle.relation_proving.specs.Telling.{GoesOn, KnowsBlame, TellsYes, TellsNo, TellsRule}
 use Rattle.relation_proving.specs.declared.told.Why.{Why}
 use Rattle.relation_proving.specs.declared.told.Why.TheVariants.{Ambiguous, Depth}
+use Rattle.relation_proving.specs.declared.told.Blame.{Blame}
 use Rattle.relation_proving.specs.declared.told.Told.{Told}
 use Rattle.relation_proving.specs.declared.told.Told.TheVariants.{Yes, No, Maybe}
+use Rattle.relation_proving.specs.declared.searching.Verdict.{Verdict}
+use Rattle.relation_proving.specs.declared.searching.Verdict.TheVariants.{Proven, Refuted, Untold}
 use Rattle.relation_proving.specs.declared.searching.Round.{Round}
 use Rattle.relation_proving.specs.declared.searching.Round.TheVariants.{Proved, Failed, Stuck}
 use Rattle.relation_proving.specs.declared.searching.Tried.{Tried}
@@ -33,39 +37,45 @@ abbrev pub worse_of : Why → Why → Why
 worse_of Depth b = Depth
 worse_of Ambiguous b = b
 
+-- The first that is named.
+abbrev pub first_of : {Key : Type 0} → Option (Blame Key) → Option (Blame Key) → Option (Blame Key)
+first_of (Some b) c = Some b
+first_of None c = c
+
 -- What is known of rules, with one more that was tried; of a goal of which one answer is enough the first by which it
 -- follows counts.
-abbrev pub search_after : {R : Type 0} → Bool → Search R → Tried R → Search R
-search_after enough Nothing (Follows r) = Found r
-search_after enough Nothing Fails = Nothing
-search_after enough Nothing (Unclear why) = Open why
-search_after true (Found r) tried = Found r
-search_after false (Found r) (Follows q) = Open Ambiguous
-search_after false (Found r) Fails = Found r
-search_after false (Found r) (Unclear why) = Open why
-search_after enough (Open why) Fails = Open why
-search_after enough (Open why) (Unclear again) = Open (worse_of why again)
-search_after true (Open why) (Follows r) = Found r
-search_after false (Open why) (Follows r) = Open why
+abbrev pub search_after : {R Key : Type 0} → Bool → ℕ → Search R Key → Tried R Key → Search R Key
+search_after enough n (Nothing b) (Follows r) = Found n r
+search_after enough n (Nothing b) (Fails c) = Nothing (first_of b c)
+search_after enough n (Nothing b) (Unclear why) = Open why
+search_after true n (Found i r) tried = Found i r
+search_after false n (Found i r) (Follows q) = Open Ambiguous
+search_after false n (Found i r) (Fails c) = Found i r
+search_after false n (Found i r) (Unclear why) = Open why
+search_after enough n (Open why) (Fails c) = Open why
+search_after enough n (Open why) (Unclear again) = Open (worse_of why again)
+search_after true n (Open why) (Follows r) = Found n r
+search_after false n (Open why) (Follows r) = Open why
 
 -- What that tells of the goal, and the context then.
-abbrev pub told_by : {R : Type 0} → Search R → Told
-told_by Nothing = No
-told_by (Found r) = Yes
+abbrev pub told_by : {R Key : Type 0} → Search R Key → Told Key
+told_by (Nothing b) = No b
+told_by (Found i r) = Yes i
 told_by (Open why) = Maybe why
 
-abbrev pub settled : {S R : Type 0} → (S → R → S) → S → Search R → S
-settled with_record now Nothing = now
-settled with_record now (Found r) = with_record now r
+abbrev pub settled : {S R Key : Type 0} → (S → R → S) → S → Search R Key → S
+settled with_record now (Nothing b) = now
+settled with_record now (Found i r) = with_record now r
 settled with_record now (Open why) = now
 
 -- What is told of the goals of a list that are asked one after another: one of them was proved or failed, or it isn't
 -- told of any.
 module _ {Key Id Name : Type 0} (c d : Context Key Id Name) (ks : List (Binder Key (ClausesKey Key)))
     (e : ParamEnvKey Key) (gs : List (ClauseKey Key)) where
-  abbrev pub TellsRound : Round → Type 0
-  TellsRound (Proved i) = (i < length gs) × ((g : ClauseKey Key) × (g ≡ get_or gs i g) × TellsGoal c d ks e g Yes)
-  TellsRound Failed = (i : ℕ) × (i < length gs) × ((g : ClauseKey Key) × (g ≡ get_or gs i g) × TellsGoal c d ks e g No)
+  abbrev pub TellsRound : Round Key → Type 0
+  TellsRound (Proved i) = (i < length gs) × ((g : ClauseKey Key) × (g ≡ get_or gs i g) × TellsYes c d ks e g)
+  TellsRound (Failed b) = KnowsBlame d ks b ×
+      ((i : ℕ) × (i < length gs) × ((g : ClauseKey Key) × (g ≡ get_or gs i g) × TellsNo c d ks e g))
   TellsRound (Stuck why) = Unit {0}
 
 module _ {S R Key Id Name : Type 0} (state : S → Context Key Id Name) (with_record : S → R → S) where
@@ -77,22 +87,22 @@ module _ {S R Key Id Name : Type 0} (state : S → Context Key Id Name) (with_re
     pub known : Extends (state where_kept).meaning (state now).meaning
 
   -- After a yes what is recorded was kept.
-  abbrev pub KeepsTold : S → Told → Tried R → Type 0
-  KeepsTold now Yes (Follows r) = IsRecordOf (state now) (state (with_record now r))
-  KeepsTold now No Fails = Unit {0}
-  KeepsTold now (Maybe why) (Unclear again) = Unit {0}
+  abbrev pub KeepsTold : S → Verdict Key → Tried R Key → Type 0
+  KeepsTold now Proven (Follows r) = IsRecordOf (state now) (state (with_record now r))
+  KeepsTold now (Refuted b) (Fails c) = b ≡ c
+  KeepsTold now (Untold why) (Unclear again) = Unit {0}
   KeepsTold now told tried = ⊥
 
   -- A record that was found may be put back.
-  abbrev pub MaySettle : S → Search R → Type 0
-  MaySettle now Nothing = Unit {0}
-  MaySettle now (Found r) = (state (with_record now r)).lawful
+  abbrev pub MaySettle : S → Search R Key → Type 0
+  MaySettle now (Nothing b) = Unit {0}
+  MaySettle now (Found i r) = (state (with_record now r)).lawful
   MaySettle now (Open why) = Unit {0}
 
   -- What is told of a rule: where the goal follows by it, what is recorded then was kept.
   module _ (c : Context Key Id Name) (now : S) (ks : List (Binder Key (ClausesKey Key))) (e : ParamEnvKey Key)
       (k : Binder Key (ClausesKey Key)) (g : ClauseKey Key) where
-    abbrev pub TellsTried : Tried R → Type 0
-    TellsTried (Follows r) = (h : HasKept c now r) × TellsRule c (state h.where_kept) ks e k g Yes
-    TellsTried Fails = TellsRule c (state now) ks e k g No
+    abbrev pub TellsTried : Tried R Key → Type 0
+    TellsTried (Follows r) = (h : HasKept c now r) × TellsRule c (state h.where_kept) ks e k g Proven
+    TellsTried (Fails b) = TellsRule c (state now) ks e k g (Refuted b)
     TellsTried (Unclear why) = Unit {0}

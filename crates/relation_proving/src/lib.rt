@@ -3,6 +3,7 @@
 #![tactic(auto)]
 
 mod barring;
+mod blaming;
 pub mod candidate;
 pub mod checking;
 mod comparing;

@@ -1,20 +1,24 @@
 //! Whether a goal follows from rules, within a depth.
-ghost use Rattle.std.specs.Prelude.{All, IfOk};
+ghost use Rattle.std.specs.Prelude.{◌<◌, All, length, IfOk};
 ghost use Rattle.relation_terms.specs.Meaning.{Extends};
 ghost use Rattle.relation_semantics.specs.Steps.{IsLater};
 ghost use Rattle.relation_proving.specs.Candidates.{MayAsk};
 ghost use Rattle.relation_proving.specs.RuleTerms.{MayUse};
 ghost use Rattle.relation_proving.specs.Telling.{MayProve, GoesOn, IsBack, TellsGoal, TellsAll, TellsRule};
 ghost use Rattle.relation_proving.specs.Searching.{TellsRound, TellsTried};
-ghost use Rattle.relation_proving.specs.Answers.{YesDerives, YesMakesFollow, YesLosesNone};
-ghost use Rattle.relation_proving.specs.Answers.{NoFollowsNever, YesStaysFirstOrder, LeavesNothing};
+ghost use Rattle.relation_proving.specs.Answers.{YesDerives, YesIsBy, YesMakesFollow, YesLosesNone};
+ghost use Rattle.relation_proving.specs.Answers.{NoFollowsNever, NoNamesKnown, YesStaysFirstOrder, LeavesNothing};
 
 use crate::barring::is_passed_over;
+use crate::blaming::blame_of;
 use crate::candidate::{Candidate, try_rule};
 use crate::opening::RuleOf;
 use crate::reading::comes_to_one;
-use crate::searching::{Round, Search, Tried, keep_told, settle, with_tried, worse};
-pub use crate::told::{Told, Why};
+use crate::searching::{
+    Round, RoundOf, Search, Tried, TriedOf, Verdict, VerdictOf, keep_told, settle, with_tried,
+    worse,
+};
+pub use crate::told::{Blame, BlameOf, Told, ToldOf, Why};
 use kept_records::KeepsRecord;
 use relation_folds::error::RelateResult;
 use relation_solver::laws;
@@ -26,18 +30,20 @@ use relation_terms::terms::{Clause, ParamEnv, Span};
 /// Each rule is opened, and what it gives is related with the goal; what it asks for is proved in turn, at one less
 /// depth, in rounds: what isn't told of a goal is asked again once another was proved. It is `Yes` where the goal
 /// follows by one rule alone and no other is left, and where it follows by one at all if no variable but of regions
-/// stands in it; the record is then what the first of these leaves. Where more than one rule is left it is
-/// `Maybe(Ambiguous)`, and so it is where a binder that binds something, another predicate than that a trait is
-/// implemented or to what an alias comes, or a goal that relating leaves stands in the way; where the depth is spent,
-/// `Maybe(Depth)`, which counts first. An alias stands for itself, but where a goal or a rule says to what it comes.
+/// stands in it; the record is then what the first of these leaves, and the answer has the rule's place. Where more
+/// than one rule is left it is `Maybe(Ambiguous)`, and so it is where a binder that binds something, another predicate
+/// than that a trait is implemented or to what an alias comes, or a goal that relating leaves stands in the way; where the
+/// depth is spent, `Maybe(Depth)`, which counts first. A `No` names the goal that failed in the end, and the rule that
+/// asked for it, of the first rule that gives the goal; it names none where no rule does. An alias stands for itself, but
+/// where a goal or a rule says to what it comes.
 ///
 /// The interner has to know the environment, the rules and the goal, whose binders bind by their lists; their variables
 /// and placeholders are the context's. Where no variable stands in a rule, each assignment that satisfies what is
-/// recorded after `Yes` makes the goal derived, by the relation at `Invariant`: of an alias and what it comes to by that of
-/// both. Where besides the goal, the rules and what is recorded are first-order, but for an alias that comes to something,
-/// `Yes` says that up to erasure each solution which is left makes the goal follow, and that none was lost under which it
-/// follows; and `No` that under no solution it does, at no depth; what is recorded stays first-order. After `No` and
-/// `Maybe` it is what was.
+/// recorded after `Yes` makes the goal derived, by that rule at last, by the relation at `Invariant`: of an alias and what
+/// it comes to by that of both. Where besides the goal, the rules and what is recorded are first-order, but for an alias
+/// that comes to something, `Yes` says that up to erasure each solution which is left makes the goal follow, and that none
+/// was lost under which it follows; and `No` that under no solution it does, at no depth; what is recorded stays
+/// first-order. After `No` and `Maybe` it is what was. The goal that a `No` names is known, and its rule is one of these.
 ///
 /// # Errors
 /// `Budget` where no instantiation is left, and `Memory` where a growth was refused. More may be recorded then; all
@@ -49,14 +55,16 @@ pub fn prove<C: KeepsRecord>(
     goal: &Clause<C::Interner>,
     depth: usize,
     span: Span<C::Interner>,
-) -> RelateResult<C::Interner, Told>
+) -> RelateResult<C::Interner, ToldOf<C::Interner>>
     requires may { MayProve (C.state ctx.old) rules.now param_env }
     requires goal { MayAsk (C.state ctx.old) goal.now }
     ensures derives { YesDerives (C.state ctx.old) (C.state ctx.new) rules.now goal.now param_env result }
+    ensures is_by { YesIsBy (C.state ctx.old) (C.state ctx.new) rules.now goal.now param_env result }
     ensures sound { YesMakesFollow (C.state ctx.old) (C.state ctx.new) rules.now goal.now result }
     ensures principal { YesLosesNone (C.state ctx.old) (C.state ctx.new) rules.now goal.now result }
     ensures none { NoFollowsNever (C.state ctx.old) (C.state ctx.new) rules.now goal.now result }
     ensures first_order { YesStaysFirstOrder (C.state ctx.old) (C.state ctx.new) rules.now goal.now result }
+    ensures named { NoNamesKnown (C.state ctx.old) (C.state ctx.new) rules.now goal.now result }
     ensures back { LeavesNothing (C.state ctx.old) (C.state ctx.new) rules.now goal.now result }
     ensures later { IsLater (C.state ctx.old).store (C.state ctx.new).store }
     ensures lawful { (C.state ctx.new).lawful }
@@ -76,7 +84,7 @@ fn follows<C: KeepsRecord>(
     goal: &Clause<C::Interner>,
     depth: usize,
     span: Span<C::Interner>,
-) -> RelateResult<C::Interner, Told>
+) -> RelateResult<C::Interner, ToldOf<C::Interner>>
     requires may { MayProve (C.state ctx.old) rules.now param_env }
     requires goal { MayAsk (C.state ctx.old) goal.now }
     ensures goes_on { GoesOn (C.state ctx.old) (C.state ctx.new) }
@@ -86,10 +94,10 @@ fn follows<C: KeepsRecord>(
         return Ok(Told::Maybe(Why::Depth));
     }
     let enough = comes_to_one(&*ctx, goal);
-    let mut search = Search::Nothing;
-    for rule in rules {
-        let tried = try_and_put_back(ctx, rules, param_env, *rule, goal, depth - 1, span)?;
-        search = with_tried(search, tried, enough);
+    let mut search = Search::Nothing(None);
+    for (place, rule) in rules.iter().enumerate() {
+        let tried = try_and_put_back(ctx, rules, param_env, *rule, place, goal, depth - 1, span)?;
+        search = with_tried(search, place, tried, enough);
     }
     Ok(settle(ctx, search))
 }
@@ -101,12 +109,14 @@ fn try_and_put_back<C: KeepsRecord>(
     rules: &[RuleOf<C::Interner>],
     param_env: ParamEnv<C::Interner>,
     rule: RuleOf<C::Interner>,
+    place: usize,
     goal: &Clause<C::Interner>,
     depth: usize,
     span: Span<C::Interner>,
-) -> RelateResult<C::Interner, Tried<C::Record>>
+) -> RelateResult<C::Interner, TriedOf<C::Record, C::Interner>>
     requires may { MayProve (C.state ctx.old) rules.now param_env }
     requires rule { MayUse (C.state ctx.old) rule }
+    requires place { place < length rules.now }
     requires goal { MayAsk (C.state ctx.old) goal.now }
     ensures goes_on { GoesOn (C.state ctx.old) (C.state ctx.new) }
     ensures back { IfOk result (λ r. IsBack (C.state ctx.old) (C.state ctx.new)) }
@@ -114,10 +124,10 @@ fn try_and_put_back<C: KeepsRecord>(
         IfOk result (TellsTried C.state C.with_record c ctx.new rules.now param_env rule goal.now) }
 {
     if is_passed_over(&*ctx, &rule, goal) {
-        return Ok(Tried::Fails);
+        return Ok(Tried::Fails(None));
     }
     let before = ctx.keep()?;
-    let told = follows_by(ctx, rules, param_env, rule, goal, depth, span)?;
+    let told = follows_by(ctx, rules, param_env, rule, place, goal, depth, span)?;
     let tried = keep_told(&*ctx, told)?;
     ctx.put_back(before);
     Ok(tried)
@@ -130,71 +140,80 @@ fn follows_by<C: KeepsRecord>(
     rules: &[RuleOf<C::Interner>],
     param_env: ParamEnv<C::Interner>,
     rule: RuleOf<C::Interner>,
+    place: usize,
     goal: &Clause<C::Interner>,
     depth: usize,
     span: Span<C::Interner>,
-) -> RelateResult<C::Interner, Told>
+) -> RelateResult<C::Interner, VerdictOf<C::Interner>>
     requires may { MayProve (C.state ctx.old) rules.now param_env }
     requires rule { MayUse (C.state ctx.old) rule }
+    requires place { place < length rules.now }
     requires goal { MayAsk (C.state ctx.old) goal.now }
     ensures goes_on { GoesOn (C.state ctx.old) (C.state ctx.new) }
     ensures tells { IfOk result (TellsRule (C.state ctx.old) (C.state ctx.new) rules.now param_env rule goal.now) }
 {
     match try_rule(ctx, param_env, rule, goal, span)? {
-        Candidate::Asks(asks) => all_follow(ctx, rules, param_env, asks, depth, span),
-        Candidate::Apart => Ok(Told::No),
-        Candidate::Unclear => Ok(Told::Maybe(Why::Ambiguous)),
+        Candidate::Asks(asks) => all_follow(ctx, rules, param_env, asks, place, depth, span),
+        Candidate::Apart => Ok(Verdict::Refuted(None)),
+        Candidate::Unclear => Ok(Verdict::Untold(Why::Ambiguous)),
     }
 }
 
-// Whether all of a list follow, asked in rounds. What is recorded then is left.
+// Whether all of a list follow that the rule at a place asks for, asked in rounds. What is recorded then is left.
 #[cycle(proving)]
 fn all_follow<C: KeepsRecord>(
     ctx: &mut C,
     rules: &[RuleOf<C::Interner>],
     param_env: ParamEnv<C::Interner>,
     asks: Vec<Clause<C::Interner>>,
+    place: usize,
     depth: usize,
     span: Span<C::Interner>,
-) -> RelateResult<C::Interner, Told>
+) -> RelateResult<C::Interner, VerdictOf<C::Interner>>
     requires may { MayProve (C.state ctx.old) rules.now param_env }
     requires asks { All (MayAsk (C.state ctx.old)) asks.items }
+    requires place { place < length rules.now }
     ensures goes_on { GoesOn (C.state ctx.old) (C.state ctx.new) }
     ensures tells { IfOk result (TellsAll (C.state ctx.old) (C.state ctx.new) rules.now param_env asks.items) }
 {
     let mut left = asks;
     'rounds: while !left.is_empty() {
-        match one_follows(ctx, rules, param_env, &left, depth, span)? {
-            Round::Proved(place) => {
-                left.remove(place);
+        match one_follows(ctx, rules, param_env, &left, place, depth, span)? {
+            Round::Proved(number) => {
+                left.remove(number);
             }
-            Round::Failed => return Ok(Told::No),
-            Round::Stuck(why) => return Ok(Told::Maybe(why)),
+            Round::Failed(blame) => return Ok(Verdict::Refuted(Some(blame))),
+            Round::Stuck(why) => return Ok(Verdict::Untold(why)),
         }
     }
-    Ok(Told::Yes)
+    Ok(Verdict::Proven)
 }
 
-// Whether one of a list follows, or none of it is told of.
+// Whether one of a list follows that the rule at a place asks for, or none of it is told of.
 #[cycle(proving)]
 fn one_follows<C: KeepsRecord>(
     ctx: &mut C,
     rules: &[RuleOf<C::Interner>],
     param_env: ParamEnv<C::Interner>,
     goals: &[Clause<C::Interner>],
+    by: usize,
     depth: usize,
     span: Span<C::Interner>,
-) -> RelateResult<C::Interner, Round>
+) -> RelateResult<C::Interner, RoundOf<C::Interner>>
     requires may { MayProve (C.state ctx.old) rules.now param_env }
     requires goals { All (MayAsk (C.state ctx.old)) goals.now }
+    requires by { by < length rules.now }
     ensures goes_on { GoesOn (C.state ctx.old) (C.state ctx.new) }
     ensures tells { IfOk result (TellsRound (C.state ctx.old) (C.state ctx.new) rules.now param_env goals.now) }
 {
     let mut why = Why::Ambiguous;
     for (place, goal) in goals.iter().enumerate() {
         match follows(ctx, rules, param_env, goal, depth, span)? {
-            Told::Yes => return Ok(Round::Proved(place)),
-            Told::No => return Ok(Round::Failed),
+            Told::Yes(_) => return Ok(Round::Proved(place)),
+            Told::No(named) => {
+                let blame = blame_of(ctx, rules, named, goal, by)?;
+                return Ok(Round::Failed(blame));
+            }
             Told::Maybe(again) => {
                 why = worse(why, again);
             }

@@ -2,42 +2,66 @@
 ghost use Rattle.std.specs.Prelude.{◌≡◌, IfOk};
 ghost use Rattle.relation_proving.specs.Searching.{worse_of, search_after, told_by, settled, KeepsTold, MaySettle};
 
-use crate::told::{Told, Why};
+use crate::blaming::first_named;
+use crate::told::{Blame, Told, ToldOf, Why};
 use kept_records::KeepsRecord;
-use relation_terms::terms::OutOfMemory;
+use relation_terms::terms::{Keys, OutOfMemory};
+
+/// What is told of a goal and one rule, or of all of a list.
+#[derive(Clone, Copy)]
+pub(crate) enum Verdict<X> {
+    /// It follows by the rule, or all follow.
+    Proven,
+    /// It is nothing that the rule gives, or a goal failed that was asked for: this one.
+    Refuted(Option<Blame<X>>),
+    /// That isn't told.
+    Untold(Why),
+}
+
+/// The same over an interner's keys.
+pub(crate) type VerdictOf<I> = Verdict<<I as Keys>::Key>;
 
 /// What became of the goals of a list that were asked one after another.
 #[derive(Clone, Copy)]
-pub(crate) enum Round {
+pub(crate) enum Round<X> {
     /// The one of this number follows, and of those before it that isn't told.
     Proved(usize),
-    /// One doesn't follow.
-    Failed,
+    /// One doesn't follow, which is due to this.
+    Failed(Blame<X>),
     /// Of none it is told.
     Stuck(Why),
 }
 
+/// The same over an interner's keys.
+pub(crate) type RoundOf<I> = Round<<I as Keys>::Key>;
+
 /// What became of a rule for a goal.
 #[derive(Drop)]
-pub(crate) enum Tried<R> {
+pub(crate) enum Tried<R, X: Copy> {
     /// The goal follows by it, and this is recorded then.
     Follows(R),
-    /// It doesn't.
-    Fails,
+    /// It doesn't, which is due to this goal if one was asked for.
+    Fails(Option<Blame<X>>),
     /// That isn't told.
     Unclear(Why),
 }
 
+/// The same over an interner's keys.
+pub(crate) type TriedOf<R, I> = Tried<R, <I as Keys>::Key>;
+
 /// What is known of the rules that were tried so far.
 #[derive(Drop)]
-pub(crate) enum Search<R> {
-    /// The goal follows by none.
-    Nothing,
-    /// It follows by one alone, and this is recorded then.
-    Found(R),
+pub(crate) enum Search<R, X: Copy> {
+    /// The goal follows by none, which is due to this goal if a rule asked for one.
+    Nothing(Option<Blame<X>>),
+    /// It follows by the one at this place alone, and this is recorded then.
+    Found(usize, R),
     /// It may follow by several, or that isn't told.
     Open(Why),
 }
+
+/// The same over an interner's keys.
+pub(crate) type SearchOf<R, I> = Search<R, <I as Keys>::Key>;
 
 /// A spent depth counts before ambiguity.
 pub(crate) fn worse(first: Why, second: Why) -> Why
@@ -49,34 +73,40 @@ pub(crate) fn worse(first: Why, second: Why) -> Why
     }
 }
 
-/// What is known with one rule more. Where one answer is enough the first rule counts by which the goal follows.
-pub(crate) fn with_tried<R: Drop>(search: Search<R>, tried: Tried<R>, enough: bool) -> Search<R>
-    ensures { result ≡ search_after enough search tried }
+/// What is known with one rule more, which is at this place. Where one answer is enough the first rule counts by which
+/// the goal follows.
+pub(crate) fn with_tried<R: Drop, X: Copy>(
+    search: Search<R, X>,
+    place: usize,
+    tried: Tried<R, X>,
+    enough: bool,
+) -> Search<R, X>
+    ensures { result ≡ search_after enough place search tried }
 {
     match search {
-        Search::Nothing => match tried {
-            Tried::Follows(record) => Search::Found(record),
-            Tried::Fails => Search::Nothing,
+        Search::Nothing(named) => match tried {
+            Tried::Follows(record) => Search::Found(place, record),
+            Tried::Fails(again) => Search::Nothing(first_named(named, again)),
             Tried::Unclear(why) => Search::Open(why),
         },
-        Search::Found(record) => {
+        Search::Found(by, record) => {
             if enough {
-                return Search::Found(record);
+                return Search::Found(by, record);
             }
             match tried {
                 Tried::Follows(_) => Search::Open(Why::Ambiguous),
-                Tried::Fails => Search::Found(record),
+                Tried::Fails(_) => Search::Found(by, record),
                 Tried::Unclear(why) => Search::Open(why),
             }
         }
         Search::Open(why) => match tried {
             Tried::Follows(record) => {
                 if enough {
-                    return Search::Found(record);
+                    return Search::Found(place, record);
                 }
                 Search::Open(why)
             }
-            Tried::Fails => Search::Open(why),
+            Tried::Fails(_) => Search::Open(why),
             Tried::Unclear(again) => Search::Open(worse(why, again)),
         },
     }
@@ -88,32 +118,35 @@ pub(crate) fn with_tried<R: Drop>(search: Search<R>, tried: Tried<R>, enough: bo
 /// `OutOfMemory` where a growth was refused.
 pub(crate) fn keep_told<C: KeepsRecord>(
     ctx: &C,
-    told: Told,
-) -> Result<Tried<C::Record>, OutOfMemory>
+    told: VerdictOf<C::Interner>,
+) -> Result<TriedOf<C::Record, C::Interner>, OutOfMemory>
     requires lawful { (C.state ctx.now).lawful }
     ensures { IfOk result (KeepsTold C.state C.with_record ctx.now told) }
 {
     match told {
-        Told::Yes => {
+        Verdict::Proven => {
             let record = ctx.keep()?;
             Ok(Tried::Follows(record))
         }
-        Told::No => Ok(Tried::Fails),
-        Told::Maybe(why) => Ok(Tried::Unclear(why)),
+        Verdict::Refuted(named) => Ok(Tried::Fails(named)),
+        Verdict::Untold(why) => Ok(Tried::Unclear(why)),
     }
 }
 
 /// What the rules tell of the goal: where it follows by one of them alone, what was recorded then is put back.
-pub(crate) fn settle<C: KeepsRecord>(ctx: &mut C, search: Search<C::Record>) -> Told
+pub(crate) fn settle<C: KeepsRecord>(
+    ctx: &mut C,
+    search: SearchOf<C::Record, C::Interner>,
+) -> ToldOf<C::Interner>
     requires may { MaySettle C.state C.with_record ctx.old search }
     ensures told { result ≡ told_by search }
     ensures leaves { ctx.new ≡ settled C.with_record ctx.old search }
 {
     match search {
-        Search::Nothing => Told::No,
-        Search::Found(record) => {
+        Search::Nothing(named) => Told::No(named),
+        Search::Found(by, record) => {
             ctx.put_back(record);
-            Told::Yes
+            Told::Yes(by)
         }
         Search::Open(why) => Told::Maybe(why),
     }

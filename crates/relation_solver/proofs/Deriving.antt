@@ -1,6 +1,6 @@
 -- What a solver proves is derived.
 use Rattle.std.proofs.Common.{ℕ, ◌≤◌, le_trans, List, [], ◌∷◌, refl, subst, map, All}
-use Rattle.relation_terms.specs.Trees.{Tree, Assign, apply}
+use Rattle.relation_terms.specs.Trees.{Tree, Assign, apply, inst}
 use Rattle.relation_semantics.specs.Relation.{Items, Interpretation}
 use Rattle.relation_semantics.specs.Steps.{AllNamable}
 use Rattle.relation_semantics.specs.Stores.{Store, Satisfies, IsNamable}
@@ -9,9 +9,9 @@ use Rattle.relation_semantics.proofs.Standing.{namable_mono}
 use Rattle.relation_semantics.proofs.Trees.{Leaves_map}
 use Rattle.relation_semantics.proofs.Values.{variables_fit, variables_namable}
 use Rattle.relation_solver.specs.Rules.{AreClosed, Rule, Asked, one, all, Meets, Derives, derived_by, all_derived}
-use Rattle.relation_solver.specs.Rules.{next_derived}
-use Rattle.relation_solver.specs.Traces.{Without, first, later, Proves, took, none_asked, one_of}
-use Rattle.relation_solver.specs.Solving.{ProofsDerive}
+use Rattle.relation_solver.specs.Rules.{next_derived, DerivesBy}
+use Rattle.relation_solver.specs.Traces.{Without, first, later, Proves, took, none_asked, one_of, ProvesBy}
+use Rattle.relation_solver.specs.Solving.{ProofsDerive, ProofsDeriveBy}
 use Rattle.relation_solver.proofs.Alike.{images_without}
 use Rattle.relation_solver.proofs.Opened.{opened_value, opened_values}
 use Rattle.relation_solver.proofs.Shadows.{unshadowed}
@@ -33,6 +33,14 @@ proved_in l (none_asked st) = none_asked st
 proved_in l (one_of before middle after g gs hs a d k) =
     one_of before middle after g gs hs a (proved_in l d) (proved_in l k)
 
+-- What was proved by a rule was proved.
+pub proved_by_one : {c : Items} {e : Tree} {u : ℕ} {held : List Tree} {rules : List Rule} {left : List Goal}
+    {before after : Store} {r : Rule} {g : Tree} → ProvesBy c e u held rules left before after r g →
+    Proves c e u held rules left before (one g) after
+proved_by_one {before = before} {after = after} {r = r} {g = g} p =
+    took before p.opened p.middle after p.universe r p.vars g p.there p.is_named p.opens p.relates p.shrinks p.stands
+    p.asks
+
 module _ (c : Items) (e : Tree) (u : ℕ) (held : List Tree) (rules : List Rule) (left : List Goal)
     (closed : AreClosed held) (w : Interpretation) (s : Assign) (holds : All (Holds c w s) left) where
   derives_together : {g : Tree} {gs hs : List Tree} → Without g gs hs → Derives c w e u held rules (one g) →
@@ -45,18 +53,48 @@ module _ (c : Items) (e : Tree) (u : ℕ) (held : List Tree) (rules : List Rule)
   Sound before (all gs) after =
       Satisfies w after s → Satisfies w before s × Derives c w e u held rules (all (map (apply s) gs))
 
+  -- A goal by a rule, where all that the rule asks for is derived.
+  by_rule : {before after : Store} (r : Rule) (g : Tree) (p : ProvesBy c e u held rules left before after r g) →
+      Sound p.middle (all (map (inst p.vars 0) r.asks)) after → Satisfies w after s →
+      Satisfies w before s × DerivesBy c w e u held rules r (apply s g)
+  by_rule {before = before} r g p asks h =
+      let a = asks h in
+      let o = p.opens in
+      let at_opening = p.shrinks w s a.0 in
+      let xs = map (apply s) p.vars in (
+        o.makes.later.shrinks w s at_opening,
+        record {
+          there = p.there;
+          values = xs;
+          fit = variables_fit before p.opened s p.universe r.binds p.vars at_opening.assigns o.makes.are_new;
+          namable = names_more p.universe u p.is_named xs
+              (variables_namable before p.opened s p.universe r.binds p.vars at_opening.assigns o.makes.are_new);
+          stands = unshadowed p.universe held closed p.middle r p.vars o p.stands s (solves_erased w p.middle s a.0);
+          meets = subst (λ t. Meets c w e (apply s g) t)
+              (opened_value s p.vars xs r.gives o.gives_closed refl) (p.relates w s a.0 holds);
+          asks = subst (λ z. Derives c w e u held rules (all z))
+              (opened_values s p.vars xs r.asks o.asks_closed refl) a.1;
+        },
+      )
+
   derives : {before after : Store} {q : Asked} → Proves c e u held rules left before q after → Sound before q after
   derives (took before opened middle after v r vars g i l o f shrinks stands d) = λ h.
-      let p = derives d h in
-      let at_opening = shrinks w s p.0 in
-      let xs = map (apply s) vars in (
-        o.makes.later.shrinks w s at_opening,
-        derived_by r xs (apply s g) i (variables_fit before opened s v r.binds vars at_opening.assigns o.makes.are_new)
-            (names_more v u l xs (variables_namable before opened s v r.binds vars at_opening.assigns o.makes.are_new))
-            (unshadowed v held closed middle r vars o stands s (solves_erased w middle s p.0))
-            (subst (λ t. Meets c w e (apply s g) t) (opened_value s vars xs r.gives o.gives_closed refl)
-            (f w s p.0 holds))
-            (subst (λ z. Derives c w e u held rules (all z)) (opened_values s vars xs r.asks o.asks_closed refl) p.1),
+      let p = by_rule r g (record {
+        there = i;
+        opened = opened;
+        middle = middle;
+        universe = v;
+        is_named = l;
+        vars = vars;
+        opens = o;
+        relates = f;
+        shrinks = shrinks;
+        stands = stands;
+        asks = d;
+      }) (derives d) h in
+      let b = p.1 in (
+        p.0,
+        derived_by r b.values (apply s g) b.there b.fit b.namable b.stands b.meets b.asks,
       )
   derives (none_asked st) = λ h. (h, all_derived)
   derives (one_of before middle after g gs hs a d k) = λ h.
@@ -67,3 +105,7 @@ module _ (c : Items) (e : Tree) (u : ℕ) (held : List Tree) (rules : List Rule)
 pub proofs_derive : ProofsDerive
 proofs_derive c e u held rules left before after g closed d w s h holds =
     derives c e u held rules left closed w s holds d h
+
+pub proofs_derive_by : ProofsDeriveBy
+proofs_derive_by c e u held rules left before after r g closed p w s h holds =
+    (by_rule c e u held rules left closed w s holds r g p (derives c e u held rules left closed w s holds p.asks) h).1

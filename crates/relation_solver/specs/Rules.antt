@@ -7,6 +7,7 @@
 --   given t                    what the environment has, as a rule
 --   Meets c w e a b            two clauses say one thing in an environment: they are related at invariance
 --   Derives c w e u held rules q   the same as Follows, where clauses meet in place of erasure
+--   DerivesBy c w e u held rules r g   a goal follows so, and by this rule
 use Rattle.std.specs.Prelude.{◌≡◌, ℕ, List, [], ◌∷◌, ◌++◌, All, Contains, map}
 use Rattle.relation_terms.specs.Heads.{BoundKind, projection}
 use Rattle.relation_terms.specs.Trees.{Tree, node, bind, nil, cons, inst, Leaves}
@@ -69,3 +70,14 @@ pub data Derives (c : Items) (w : Interpretation) (e : Tree) (u : ℕ) (held : L
   all_derived : Derives c w e u held rules (all [])
   next_derived : (g : Tree) (gs : List Tree) → Derives c w e u held rules (one g) →
       Derives c w e u held rules (all gs) → Derives c w e u held rules (all (g ∷ gs))
+
+-- A goal follows so by this rule: it is what the rule gives for some values, and what the rule asks for then follows.
+pub record DerivesBy (c : Items) (w : Interpretation) (e : Tree) (u : ℕ) (held : List Tree) (rules : List Rule)
+    (r : Rule) (g : Tree) : Type 0 where
+  pub there : Contains rules r
+  pub values : List Tree
+  pub fit : FitKinds r.binds values
+  pub namable : AllNamable u values
+  pub stands : IsShadowed held r values → ⊥
+  pub meets : Meets c w e g (inst values 0 r.gives)
+  pub asks : Derives c w e u held rules (all (map (inst values 0) r.asks))

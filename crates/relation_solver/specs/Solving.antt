@@ -6,6 +6,7 @@
 --   AllYesAreSound, AllYesArePrincipal, SomeNoMeansNone   the same of all of a list
 --   ProofsDerive      what satisfies the record after a yes, and makes the goals true that are left, makes the goal
 --                     derived
+--   ProofsDeriveBy    the same of a yes by a rule: the goal is derived by that one
 use Rattle.std.specs.Prelude.{◌≡◌, ℕ, List, All, map}
 use Rattle.relation_terms.specs.Trees.{Tree, Assign, apply}
 use Rattle.relation_terms.specs.Heads.{BoundKind}
@@ -14,8 +15,8 @@ use Rattle.relation_semantics.specs.Stores.{Store, IsSound, InContext, Satisfies
 use Rattle.relation_semantics.specs.Goals.{Goal, Holds}
 use Rattle.relation_semantics.specs.FirstOrder.{IsErasedSolution}
 use Rattle.relation_semantics.specs.Steps.{AllNamable, MakesVariables, HasExtension, HasErasedExtension}
-use Rattle.relation_solver.specs.Rules.{AreClosed, Rule, one, all, Follows, Derives}
-use Rattle.relation_solver.specs.Traces.{Did, goal, goals, yes, no, Proves}
+use Rattle.relation_solver.specs.Rules.{AreClosed, Rule, one, all, Follows, Derives, DerivesBy}
+use Rattle.relation_solver.specs.Traces.{Did, goal, goals, yes, no, Proves, ProvesBy}
 
 -- New variables for what a binder binds may have any values that their universe can name, also where an assignment
 -- satisfies what is recorded up to erasure alone.
@@ -69,3 +70,10 @@ ProofsDerive = (c : Items) (e : Tree) (u : ℕ) (held : List Tree) (rules : List
     (before after : Store) (g : Tree) → AreClosed held → Proves c e u held rules left before (one g) after →
     (w : Interpretation) (s : Assign) → Satisfies w after s → All (Holds c w s) left →
     Satisfies w before s × Derives c w e u held rules (one (apply s g))
+
+-- Of a goal to which it was yes by a rule the last rule that derives it is that one.
+abbrev pub ProofsDeriveBy : Type 0
+ProofsDeriveBy = (c : Items) (e : Tree) (u : ℕ) (held : List Tree) (rules : List Rule) (left : List Goal)
+    (before after : Store) (r : Rule) (g : Tree) → AreClosed held → ProvesBy c e u held rules left before after r g →
+    (w : Interpretation) (s : Assign) → Satisfies w after s → All (Holds c w s) left →
+    DerivesBy c w e u held rules r (apply s g)

@@ -10,6 +10,7 @@
 --   MakesMeet c st gs e a b     what satisfies st, and makes the goals gs true, makes two clauses say one thing
 --   Proves c e u held rules gs st q st'   a solver that was asked q in st said yes: st' is recorded then, and the goals
 --                                         gs are left
+--   ProvesBy c e u held rules gs st st' r g   the same of a goal, of which it said yes by this rule
 use Rattle.std.specs.Prelude.{◌≡◌, ℕ, ◌≤◌, List, [], ◌∷◌, All, Contains, map}
 use Rattle.relation_terms.specs.Trees.{Tree, Assign, apply, inst, Leaves}
 use Rattle.relation_terms.specs.Erasure.{erase}
@@ -142,3 +143,18 @@ pub data Proves (c : Items) (e : Tree) (u : ℕ) (held : List Tree) (rules : Lis
   one_of : (before middle after : Store) (g : Tree) (gs hs : List Tree) → Without g gs hs →
       Proves c e u held rules left before (one g) middle → Proves c e u held rules left middle (all hs) after →
       Proves c e u held rules left before (all gs) after
+
+-- It said so of a goal by this rule: the rule was opened and related, and it said yes to all that the rule asks for.
+pub record ProvesBy (c : Items) (e : Tree) (u : ℕ) (held : List Tree) (rules : List Rule) (left : List Goal)
+    (before after : Store) (r : Rule) (g : Tree) : Type 0 where
+  pub there : Contains rules r
+  pub opened : Store
+  pub middle : Store
+  pub universe : ℕ
+  pub is_named : universe ≤ u
+  pub vars : List Tree
+  pub opens : Opens universe before opened r vars
+  pub relates : MakesMeet c middle left e g (inst vars 0 r.gives)
+  pub shrinks : OnlyShrinks opened middle
+  pub stands : StandsFirst held middle r vars
+  pub asks : Proves c e u held rules left middle (all (map (inst vars 0) r.asks)) after

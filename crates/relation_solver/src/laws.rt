@@ -3,7 +3,7 @@
 
 ghost use Rattle.relation_solver.specs.Solving.{YesIsSound, YesIsPrincipal, NoMeansNone};
 ghost use Rattle.relation_solver.specs.Solving.{AllYesAreSound, AllYesArePrincipal, SomeNoMeansNone};
-ghost use Rattle.relation_solver.specs.Solving.{ProofsDerive, OpenedAreUnconstrained};
+ghost use Rattle.relation_solver.specs.Solving.{ProofsDerive, ProofsDeriveBy, OpenedAreUnconstrained};
 
 /// What a yes and a no to a goal mean.
 pub fn goals()
@@ -22,6 +22,7 @@ pub fn lists()
 /// What a yes means of any goal, where goals may be left.
 pub fn derivations()
     ensures derive { ProofsDerive }
+    ensures derive_by { ProofsDeriveBy }
 {}
 
 /// What new variables may stand for.

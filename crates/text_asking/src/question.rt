@@ -115,7 +115,7 @@ pub(super) enum Answer<R, K, X: Copy, D, N> {
     Overlap(TraitId<D>, Result<Overlap<X, D, N>, RelateFault<X, D, N>>),
     Methods(Vec<N>),
     // Of a goal.
-    Proved(Result<Told, RelateFault<X, D, N>>),
+    Proved(Result<Told<X>, RelateFault<X, D, N>>),
 }
 
 // What is answered to a question over an interner.

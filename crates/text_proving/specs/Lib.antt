@@ -3,3 +3,4 @@ pub mod Made
 pub mod Implied
 pub mod Asked
 pub mod Texts
+pub mod Sources

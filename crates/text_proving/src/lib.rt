@@ -7,3 +7,4 @@ pub mod implied;
 pub mod proving;
 mod refusing;
 pub mod rules;
+pub mod sources;

@@ -5,10 +5,10 @@ ghost use Rattle.relation_terms.specs.Trees.{known};
 ghost use Rattle.relation_terms.specs.Meaning.{Extends};
 ghost use Rattle.relation_semantics.specs.Contexts.{KnowsEnv};
 ghost use Rattle.relation_semantics.specs.Steps.{IsLater};
-ghost use Rattle.relation_proving.specs.Answers.{YesDerives, YesMakesFollow, YesLosesNone};
-ghost use Rattle.relation_proving.specs.Answers.{NoFollowsNever, LeavesNothing};
+ghost use Rattle.relation_proving.specs.Answers.{YesDerives, YesIsBy, YesMakesFollow, YesLosesNone};
+ghost use Rattle.relation_proving.specs.Answers.{NoFollowsNever, NoNamesKnown, LeavesNothing};
 ghost use Rattle.relation_proving.specs.RuleTerms.{KnowsRule, IsClosedRule};
-ghost use Rattle.text_proving.specs.Texts.{proof_text};
+ghost use Rattle.text_proving.specs.Texts.{place_named, proof_text};
 
 pub use crate::refusing::WhyNot;
 use crate::refusing::refusal;
@@ -16,12 +16,12 @@ use kept_records::KeepsRecord;
 use may_relate::{HasVariables, Unfit};
 use relation_folds::error::{RelateFault, RelateResult};
 use relation_proving::opening::RuleOf;
-use relation_proving::proving::{Told, Why, prove};
+use relation_proving::proving::{Told, ToldOf, Why, prove};
 use relation_terms::terms::{Clause, Interner, ParamEnv};
 use std::fmt::{self, Write};
 
 /// What comes of asking whether a goal follows.
-pub type ProofResult<I> = RelateResult<I, Told>;
+pub type ProofResult<I> = RelateResult<I, ToldOf<I>>;
 
 /// Whether a goal follows from rules in a context, within a depth, as `prove` tells. The interner knows the rules, the
 /// environment and the goal.
@@ -42,9 +42,11 @@ pub fn ask_proof<C: HasVariables + KeepsRecord>(
     requires goal_known { IsTrue (known ((C.state ctx.old).meaning.clause goal.now)) }
     ensures closed { IfOk result (λ told. All (IsClosedRule (C.state ctx.old)) rules.now) }
     ensures derives { IfOk result (YesDerives (C.state ctx.old) (C.state ctx.new) rules.now goal.now param_env) }
+    ensures is_by { IfOk result (YesIsBy (C.state ctx.old) (C.state ctx.new) rules.now goal.now param_env) }
     ensures sound { IfOk result (YesMakesFollow (C.state ctx.old) (C.state ctx.new) rules.now goal.now) }
     ensures principal { IfOk result (YesLosesNone (C.state ctx.old) (C.state ctx.new) rules.now goal.now) }
     ensures none { IfOk result (NoFollowsNever (C.state ctx.old) (C.state ctx.new) rules.now goal.now) }
+    ensures named { IfOk result (NoNamesKnown (C.state ctx.old) (C.state ctx.new) rules.now goal.now) }
     ensures back { IfOk result (LeavesNothing (C.state ctx.old) (C.state ctx.new) rules.now goal.now) }
     ensures unasked { OnErr result (ctx.new ≡ ctx.old) }
     ensures later { IsLater (C.state ctx.old).store (C.state ctx.new).store }
@@ -58,13 +60,24 @@ pub fn ask_proof<C: HasVariables + KeepsRecord>(
     Ok(prove(ctx, rules, param_env, goal, depth, span))
 }
 
+/// The place of the rule that an answer names: by which a goal follows, or which asked for the one that failed.
+pub fn place_named<I: Interner>(proof: &ProofResult<I>) -> Option<usize>
+    ensures { result ≡ place_named proof.now }
+{
+    match proof {
+        Ok(Told::Yes(place)) => Some(*place),
+        Ok(Told::No(Some(blame))) => Some(blame.by),
+        Ok(Told::No(None)) | Ok(Told::Maybe(_)) | Err(_) => None,
+    }
+}
+
 /// How what is told of a goal is written, or why nothing is.
 pub fn proof_text<I: Interner>(proof: &ProofResult<I>) -> &'static str
     ensures { result.now ≡ proof_text proof.now }
 {
     match proof {
-        Ok(Told::Yes) => "yes",
-        Ok(Told::No) => "no",
+        Ok(Told::Yes(_)) => "yes",
+        Ok(Told::No(_)) => "no",
         Ok(Told::Maybe(Why::Ambiguous)) => "maybe: ambiguous",
         Ok(Told::Maybe(Why::Depth)) => "maybe: depth",
         Err(RelateFault::Memory) => "memory",

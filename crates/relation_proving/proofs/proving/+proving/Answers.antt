@@ -11,7 +11,7 @@ use Rattle.relation_proving.specs.Searching.{TellsRound}
 use Rattle.relation_proving.proofs.GoingOn.{goes_itself, goes_through, back_itself, back_through, back_goes}
 use Rattle.relation_proving.proofs.GoingOn.{uses_on, proves_on, ask_on, asks_on}
 use Rattle.relation_proving.proofs.Answering.{by_asks_result, by_apart, AsksOn, asking_begins, asking_ended}
-use Rattle.relation_proving.proofs.Answering.{asking_goes_on, asking_fails, round_proved, round_failed}
+use Rattle.relation_proving.proofs.Answering.{asking_goes_on, asking_fails, round_proved, round_failed, named_known}
 use Rattle.relation_proving.proofs.Searches.{Searches, search_begins, search_goes_on, may_settle, settles_goes}
 use Rattle.relation_proving.proofs.Searches.{settles_tells, tried_tells, put_back_grown, put_back_back}
 use Rattle.relation_proving.proofs.proving.+proving.Goals as goal
@@ -25,8 +25,8 @@ follows-returns-then-depth-eq0 g t c =
     let s = g.C.InferCtxtLike.state c.args.ctx.now in
     record { goes_on = goes_itself s c.requires.may.lawful; tells = back_itself s c.requires.may.lawful }
 
-pub follows-loop-rule-init : goal.follows-loop-rule-init
-follows-loop-rule-init g t c =
+pub follows-loop-place-init : goal.follows-loop-place-init
+follows-loop-place-init g t c =
     let s = g.C.InferCtxtLike.state c.args.ctx.now in
     search_begins g.C.InferCtxtLike.state g.C.KeepsRecord.with_record s c.args.rules.now c.args.param_env c.args.goal.now c.args.ctx.now
     (back_itself s c.requires.may.lawful)
@@ -34,58 +34,58 @@ follows-loop-rule-init g t c =
 pub follows-try_and_put_back-requires : goal.follows-try_and_put_back-requires
 follows-try_and_put_back-requires g t c κs within =
     let s = g.C.InferCtxtLike.state c.args.ctx.now in
-    let d = g.C.InferCtxtLike.state c.loop-rule.ctx in
-    let on = back_goes s d c.loop-rule.invariant.back in
+    let d = g.C.InferCtxtLike.state c.loop-place.ctx in
+    let on = back_goes s d c.loop-place.invariant.back in
     let m = c.decreases in
     let may = proves_on s d on c.args.rules.now c.args.param_env c.requires.may in
-    let used = uses_on s d on c.args.rules.now c.requires.may.rules c.loop-rule.rule-index c.rule-item.result
-    c.loop-rule-test.true in
-    let usable = subst (λ k. MayUse d k) (sym c.rule-item.is) used in
+    let used = uses_on s d on c.args.rules.now c.requires.may.rules c.loop-place.place c.index-rules-place.result
+    c.loop-place-test.true in
+    let usable = subst (λ k. MayUse d k) (sym c.index-rules-place.is) used in
     let asked = ask_on s d on c.args.goal.now c.requires.goal in
     search rules
 
 pub follows-returns-in_err-tried-clause-goes_on : goal.follows-returns-in_err-tried-clause-goes_on
 follows-returns-in_err-tried-clause-goes_on g t c =
     let s = g.C.InferCtxtLike.state c.args.ctx.now in
-    let d = g.C.InferCtxtLike.state c.loop-rule.ctx in
+    let d = g.C.InferCtxtLike.state c.loop-place.ctx in
     let e = g.C.InferCtxtLike.state c.try_and_put_back.new.ctx in
-    goes_through s d e (back_goes s d c.loop-rule.invariant.back) c.in_err-tried.ensures.goes_on
+    goes_through s d e (back_goes s d c.loop-place.invariant.back) c.in_err-tried.ensures.goes_on
 
-pub follows-loop-rule-preserved : goal.follows-loop-rule-preserved
-follows-loop-rule-preserved g t c =
+pub follows-loop-place-preserved : goal.follows-loop-place-preserved
+follows-loop-place-preserved g t c =
     let s = g.C.InferCtxtLike.state c.args.ctx.now in
-    let inv = c.loop-rule.invariant in
+    let inv = c.loop-place.invariant in
     subst (Searches g.C.InferCtxtLike.state g.C.KeepsRecord.with_record s c.args.rules.now c.args.param_env c.args.goal.now
-    c.try_and_put_back.new.ctx (c.loop-rule.rule-index + 1)) (sym c.with_tried-search.ensures)
+    c.try_and_put_back.new.ctx (c.loop-place.place + 1)) (sym c.with_tried-search.ensures)
     (search_goes_on g.C.InferCtxtLike.state g.C.KeepsRecord.with_record s c.args.rules.now c.args.param_env c.args.goal.now
-    c.loop-rule.ctx c.try_and_put_back.new.ctx c.loop-rule.rule-index c.rule-item.result c.loop-rule-test.true
-    c.rule-item.is c.requires.may.env_known c.requires.may.rules c.requires.goal inv.back c.in_ok-tried.ensures.back
+    c.loop-place.ctx c.try_and_put_back.new.ctx c.loop-place.place c.index-rules-place.result c.loop-place-test.true
+    c.index-rules-place.is c.requires.may.env_known c.requires.may.rules c.requires.goal inv.back c.in_ok-tried.ensures.back
     c.comes_to_one-enough.result (λ e. comes_to_one s.store (goal_tree s c.args.goal.now) c.comes_to_one-enough.result
-    c.requires.goal.is_in c.comes_to_one-enough.ensures e) c.loop-rule.search c.in_ok-tried.tried inv.tells
+    c.requires.goal.is_in c.comes_to_one-enough.ensures e) c.loop-place.search c.in_ok-tried.tried inv.tells
     c.in_ok-tried.ensures.tells)
 
 pub follows-settle-requires : goal.follows-settle-requires
 follows-settle-requires g t c =
     let s = g.C.InferCtxtLike.state c.args.ctx.now in
-    let test = c.loop-rule-test.false in
+    let test = c.loop-place-test.false in
     record {
       may = may_settle g.C.InferCtxtLike.state g.C.KeepsRecord.with_record s c.args.rules.now c.args.param_env c.args.goal.now
-          g.met.C.KeepsRecord.stands g.met.C.InferCtxtLike.sound c.loop-rule.ctx c.loop-rule.rule-index (omega (arith, test)) c.loop-rule.search
-          c.loop-rule.invariant.tells;
+          g.met.C.KeepsRecord.stands g.met.C.InferCtxtLike.sound c.loop-place.ctx c.loop-place.place (omega (arith, test)) c.loop-place.search
+          c.loop-place.invariant.tells;
     }
 
 pub follows-returns : goal.follows-returns
 follows-returns g t c =
     let s = g.C.InferCtxtLike.state c.args.ctx.now in
-    let test = c.loop-rule-test.false in
-    let all : length c.args.rules.now ≤ c.loop-rule.rule-index = omega (arith, test) in
+    let test = c.loop-place-test.false in
+    let all : length c.args.rules.now ≤ c.loop-place.place = omega (arith, test) in
     record {
       goes_on = settles_goes g.C.InferCtxtLike.state g.C.KeepsRecord.with_record s c.args.rules.now c.args.param_env c.args.goal.now
-          g.met.C.KeepsRecord.stands g.met.C.InferCtxtLike.sound c.loop-rule.ctx c.loop-rule.rule-index all c.loop-rule.search
-          c.loop-rule.invariant c.settle.new.ctx c.settle.ensures.leaves;
+          g.met.C.KeepsRecord.stands g.met.C.InferCtxtLike.sound c.loop-place.ctx c.loop-place.place all c.loop-place.search
+          c.loop-place.invariant c.settle.new.ctx c.settle.ensures.leaves;
       tells = settles_tells g.C.InferCtxtLike.state g.C.KeepsRecord.with_record s c.args.rules.now c.args.param_env c.args.goal.now
-          g.met.C.KeepsRecord.stands g.met.C.InferCtxtLike.sound c.loop-rule.ctx c.loop-rule.rule-index all c.loop-rule.search
-          c.loop-rule.invariant c.settle.new.ctx c.settle.ensures.leaves c.settle.result c.settle.ensures.told;
+          g.met.C.KeepsRecord.stands g.met.C.InferCtxtLike.sound c.loop-place.ctx c.loop-place.place all c.loop-place.search
+          c.loop-place.invariant c.settle.new.ctx c.settle.ensures.leaves c.settle.result c.settle.ensures.told;
     }
 
 -- A rule that is tried, and the record put back.
@@ -204,12 +204,12 @@ all_follow-one_follows-requires g t c κs within =
     let asked = subst (All (MayAsk d)) (sym c.deref.ensures.value) c.rounds.invariant.may_ask in
     search rules
 
-pub all_follow-returns-in_err-place-clause-goes_on : goal.all_follow-returns-in_err-place-clause-goes_on
-all_follow-returns-in_err-place-clause-goes_on g t c =
+pub all_follow-returns-in_err-number-clause-goes_on : goal.all_follow-returns-in_err-number-clause-goes_on
+all_follow-returns-in_err-number-clause-goes_on g t c =
     let s = g.C.InferCtxtLike.state c.args.ctx.now in
     let d = g.C.InferCtxtLike.state c.rounds.ctx in
     let e = g.C.InferCtxtLike.state c.one_follows.new.ctx in
-    goes_through s d e c.rounds.invariant.goes_on c.in_err-place.ensures.goes_on
+    goes_through s d e c.rounds.invariant.goes_on c.in_err-number.ensures.goes_on
 
 pub all_follow-rounds-preserved : goal.all_follow-rounds-preserved
 all_follow-rounds-preserved g t c =
@@ -217,12 +217,12 @@ all_follow-rounds-preserved g t c =
     let d = g.C.InferCtxtLike.state c.rounds.ctx in
     let e = g.C.InferCtxtLike.state c.one_follows.new.ctx in
     let ks = c.args.rules.now in
-    let told : TellsRound d e ks c.args.param_env c.rounds.left.items (Proved c.in-Proved.place) =
-    subst (λ gs. TellsRound d e ks c.args.param_env gs (Proved c.in-Proved.place)) c.deref.ensures.value (subst (TellsRound d e ks c.args.param_env c.deref.result.now) c.in-Proved.is c.in_ok-place.ensures.tells) in
+    let told : TellsRound d e ks c.args.param_env c.rounds.left.items (Proved c.in-Proved.number) =
+    subst (λ gs. TellsRound d e ks c.args.param_env gs (Proved c.in-Proved.number)) c.deref.ensures.value (subst (TellsRound d e ks c.args.param_env c.deref.result.now) c.in-Proved.is c.in_ok-number.ensures.tells) in
     subst (AsksOn s e ks c.args.param_env c.args.asks.items) (sym c.remove.ensures.items)
     (asking_goes_on s ks c.args.param_env c.args.asks.items d e c.rounds.left.items c.requires.may.rules
     c.requires.may.env_known c.rounds.invariant
-    c.in_ok-place.ensures.goes_on c.in-Proved.place told)
+    c.in_ok-number.ensures.goes_on c.in-Proved.number told)
 
 pub all_follow-returns-in-Failed : goal.all_follow-returns-in-Failed
 all_follow-returns-in-Failed g t c =
@@ -230,13 +230,13 @@ all_follow-returns-in-Failed g t c =
     let d = g.C.InferCtxtLike.state c.rounds.ctx in
     let e = g.C.InferCtxtLike.state c.one_follows.new.ctx in
     let ks = c.args.rules.now in
-    let told : TellsRound d e ks c.args.param_env c.rounds.left.items Failed =
-    subst (λ gs. TellsRound d e ks c.args.param_env gs Failed) c.deref.ensures.value (subst (TellsRound d e ks c.args.param_env c.deref.result.now) c.in-Failed.is c.in_ok-place.ensures.tells) in
+    let told : TellsRound d e ks c.args.param_env c.rounds.left.items (Failed c.in-Failed.blame) =
+    subst (λ gs. TellsRound d e ks c.args.param_env gs (Failed c.in-Failed.blame)) c.deref.ensures.value (subst (TellsRound d e ks c.args.param_env c.deref.result.now) c.in-Failed.is c.in_ok-number.ensures.tells) in
     record {
-      goes_on = goes_through s d e c.rounds.invariant.goes_on c.in_ok-place.ensures.goes_on;
+      goes_on = goes_through s d e c.rounds.invariant.goes_on c.in_ok-number.ensures.goes_on;
       tells = asking_fails s ks c.args.param_env c.args.asks.items d e c.rounds.left.items c.requires.may.rules
           c.requires.may.env_known c.rounds.invariant
-          c.in_ok-place.ensures.goes_on told;
+          c.in_ok-number.ensures.goes_on c.in-Failed.blame told;
     }
 
 pub all_follow-returns-in-Stuck : goal.all_follow-returns-in-Stuck
@@ -245,7 +245,7 @@ all_follow-returns-in-Stuck g t c =
     let d = g.C.InferCtxtLike.state c.rounds.ctx in
     let e = g.C.InferCtxtLike.state c.one_follows.new.ctx in
     record {
-      goes_on = goes_through s d e c.rounds.invariant.goes_on c.in_ok-place.ensures.goes_on;
+      goes_on = goes_through s d e c.rounds.invariant.goes_on c.in_ok-number.ensures.goes_on;
       tells = tt;
     }
 
@@ -291,7 +291,7 @@ one_follows-returns-in-Yes g t c =
       goes_on = goes_through s d e (back_goes s d c.loop-place.invariant) c.in_ok-follows.ensures.goes_on;
       tells = round_proved s d e c.loop-place.invariant c.args.rules.now c.args.param_env c.requires.may.env_known c.requires.may.rules c.args.goals.now
           c.requires.goals c.loop-place.place c.loop-place-test.true c.index-goals-place.result c.index-goals-place.is
-          (subst (TellsGoal d e c.args.rules.now c.args.param_env c.index-goals-place.result) c.in-Yes.is
+          c.in-Yes.field-0 (subst (TellsGoal d e c.args.rules.now c.args.param_env c.index-goals-place.result) c.in-Yes.is
           c.in_ok-follows.ensures.tells);
     }
 
@@ -300,13 +300,36 @@ one_follows-returns-in-No g t c =
     let s = g.C.InferCtxtLike.state c.args.ctx.now in
     let d = g.C.InferCtxtLike.state c.loop-place.ctx in
     let e = g.C.InferCtxtLike.state c.follows.new.ctx in
+    let f = g.C.InferCtxtLike.state c.blame_of.new.ctx in
     record {
-      goes_on = goes_through s d e (back_goes s d c.loop-place.invariant) c.in_ok-follows.ensures.goes_on;
+      goes_on = goes_through s e f (goes_through s d e (back_goes s d c.loop-place.invariant)
+          c.in_ok-follows.ensures.goes_on) c.in_ok-blame-in-No.ensures.goes_on;
       tells = round_failed s d e c.loop-place.invariant c.args.rules.now c.args.param_env c.requires.may.env_known c.requires.may.rules c.args.goals.now
           c.requires.goals c.loop-place.place c.loop-place-test.true c.index-goals-place.result c.index-goals-place.is
-          (subst (TellsGoal d e c.args.rules.now c.args.param_env c.index-goals-place.result) c.in-No.is
-          c.in_ok-follows.ensures.tells);
+          c.in-No.named (subst (TellsGoal d e c.args.rules.now c.args.param_env c.index-goals-place.result) c.in-No.is
+          c.in_ok-follows.ensures.tells) f c.in_ok-blame-in-No.blame c.in_ok-blame-in-No.ensures.known;
     }
+
+pub one_follows-blame_of-requires-clause-lawful : goal.one_follows-blame_of-requires-clause-lawful
+one_follows-blame_of-requires-clause-lawful g t c = c.in_ok-follows.ensures.goes_on.lawful
+
+pub one_follows-blame_of-requires-clause-goal : goal.one_follows-blame_of-requires-clause-goal
+one_follows-blame_of-requires-clause-goal g t c =
+    let s = g.C.InferCtxtLike.state c.args.ctx.now in
+    let d = g.C.InferCtxtLike.state c.loop-place.ctx in
+    let e = g.C.InferCtxtLike.state c.follows.new.ctx in
+    let on = goes_through s d e (back_goes s d c.loop-place.invariant) c.in_ok-follows.ensures.goes_on in
+    subst (MayAsk e) (sym c.index-goals-place.is) (asks_on s e on c.args.goals.now c.requires.goals
+    c.loop-place.place c.index-goals-place.result c.loop-place-test.true)
+
+pub one_follows-blame_of-requires-clause-named : goal.one_follows-blame_of-requires-clause-named
+one_follows-blame_of-requires-clause-named g t c =
+    named_known (g.C.InferCtxtLike.state c.loop-place.ctx) (g.C.InferCtxtLike.state c.follows.new.ctx)
+    c.args.rules.now c.args.param_env c.index-goals-place.result c.in-No.named _ c.in-No.is
+    c.in_ok-follows.ensures.tells
+
+pub one_follows-blame_of-requires-clause-by : goal.one_follows-blame_of-requires-clause-by
+one_follows-blame_of-requires-clause-by g t c = c.requires.by
 
 pub one_follows-loop-place-preserved : goal.one_follows-loop-place-preserved
 one_follows-loop-place-preserved g t c =

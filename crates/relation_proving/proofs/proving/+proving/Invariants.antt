@@ -20,9 +20,9 @@ abbrev pub decreases-one_follows : goal.decreases-one_follows
 decreases-one_follows g l = 5 * l.depth + 1
 
 -- By the rules so far this is known.
-abbrev pub invariant-follows-loop-rule : goal.invariant-follows-loop-rule
-invariant-follows-loop-rule g l = Searches g.C.InferCtxtLike.state g.C.KeepsRecord.with_record
-    (g.C.InferCtxtLike.state l.initial.ctx) l.rules l.param_env l.goal l.ctx l.rule-index l.search
+abbrev pub invariant-follows-loop-place : goal.invariant-follows-loop-place
+invariant-follows-loop-place g l = Searches g.C.InferCtxtLike.state g.C.KeepsRecord.with_record
+    (g.C.InferCtxtLike.state l.initial.ctx) l.rules l.param_env l.goal l.ctx l.place l.search
 
 -- What is left to ask answers the whole list.
 abbrev pub invariant-all_follow-rounds : goal.invariant-all_follow-rounds

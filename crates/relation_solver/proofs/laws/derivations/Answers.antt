@@ -1,5 +1,5 @@
-use Rattle.relation_solver.proofs.Deriving.{proofs_derive}
+use Rattle.relation_solver.proofs.Deriving.{proofs_derive, proofs_derive_by}
 use Rattle.relation_solver.proofs.laws.derivations.Goals as goal
 
 pub returns : goal.returns
-returns c = record { derive = proofs_derive }
+returns c = record { derive = proofs_derive; derive_by = proofs_derive_by }
