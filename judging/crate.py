@@ -1,0 +1,218 @@
+"""Makes statements of a crate that rustdoc describes: its types, its traits, and its impls."""
+import collections
+import re
+
+from judging import described, library
+from judging.bounds import Bounds, bounds_of_impl
+from judging.described import Described, Scope, Unspelled
+from judging.library import WORD, param_text, put
+
+# A trait: its place, parameters as (sort, name), what it states, and why it states more than that.
+Trait = collections.namedtuple("Trait", "place name params supers lacks auto local")
+# An impl: its place, where it comes from, its parameters, its trait with arguments and the type; what it asks for, why
+# there is more, and which parameters may be unsized. Where the head is not spelled `of` is nothing.
+Impl = collections.namedtuple("Impl", "place origin params name trait of asks lacks unsized")
+# Of whom an impl is: of the crate, of the compiler's for auto traits, of another crate.
+OWN, AUTO, OTHER = "own", "auto", "other"
+
+
+def generic(params):
+    return f"<{', '.join(param_text(*it[:2]) for it in params)}>" if params else ""
+
+
+def head(impl):
+    return f"impl{generic(impl.params)} {impl.trait} for {impl.of}"
+
+
+def impl_text(impl):
+    return head(impl) + (f" where {', '.join(impl.asks)}" if impl.asks else "")
+
+
+def names_in(text):
+    return {it for it in WORD.findall(text) if not it.startswith("'")}
+
+
+class Crate:
+    """A crate: its types by their names, with the sorts of parameters, its traits, and impls."""
+
+    def __init__(self, file):
+        self.of = Described(file)
+        # What is seen of other crates' items counts from the start: all is read twice.
+        for _ in range(2):
+            self.traits, self.impls, self.aliases = {}, [], []
+            for id, item in sorted(self.of.index.items(), key=lambda it: int(it[0])):
+                kind, it = next(iter(item["inner"].items()))
+                if kind == "trait":
+                    self.add_trait(id, item, it)
+                elif kind == "impl" and it["trait"]:
+                    self.add_impl(item, it)
+        self.impls = list({it[1:]: it for it in self.impls}.values())
+        self.named = self.of.library_names()
+        self.ids = {name: id for id, name in self.of.names.items()}
+        self.impls += [self.renamed(it) for it in library.library().impls]
+        self.reach()
+
+    def add_trait(self, id, item, it):
+        scope = Scope(self.of, it["generics"]["params"], "Self")
+        bounds = Bounds(scope)
+        bounds.add_supers(it)
+        name = self.of.name_of(id, item["name"])
+        for sub in it["items"]:
+            of = self.of.index.get(str(sub))
+            if of and of["inner"].get("assoc_type", {}).get("bounds"):
+                bounds.lacks.append(described.OF_ALIAS)
+        local = item["crate_id"] == self.of.crate
+        place = self.of.place(item)
+        self.traits[name] = Trait(place, name, scope.params, bounds.clauses, bounds.lacks, it["is_auto"], local)
+
+    def add_impl(self, item, it):
+        """Adds an impl; one of another crate for all types of a bound stands as often as there are types."""
+        local = item["crate_id"] == self.of.crate
+        blanket = it["blanket_impl"]
+        if blanket and (local or self.of.is_local(it["trait"]["id"]) or self.of.is_known(it["trait"]["id"])):
+            return
+        if it["is_synthetic"] and it["is_negative"]:
+            return
+        origin = AUTO if it["is_synthetic"] else OTHER if blanket or not local else OWN
+        scope, bounds = bounds_of_impl(self.of, it)
+        name = self.of.name_of(it["trait"]["id"], it["trait"]["path"])
+        try:
+            if it["is_negative"]:
+                raise Unspelled(described.NEGATIVE)
+            of = scope.ty(blanket or it["for"])
+            trait = scope.trait(it["trait"], of)
+        except Unspelled as why:
+            of, trait = None, str(why)
+        place, asks, lacks = self.of.place(item), tuple(bounds.clauses), tuple(bounds.lacks)
+        unsized = frozenset(bounds.unsized)
+        self.impls.append(Impl(place, origin, tuple(scope.params), name, trait, of, asks, lacks, unsized))
+
+    def renamed(self, it):
+        """Gives an impl of the library as this crate names what is in it."""
+        values = {name: self.of.free_name(sort, name) for sort, name in it.params}
+        values = {**self.named, **values}
+        params = tuple((sort, values[name]) for sort, name in it.params)
+        asks = tuple(put(ask, values) for ask in it.asks)
+        trait = put(it.trait, values)
+        return Impl("the library", OTHER, params, names_first(trait), trait, put(it.of, values), asks, (), frozenset())
+
+    def reach(self):
+        """Finds which traits and types are spoken of, and leaves out the impls of all others."""
+        self.types, used, text = {}, set(), []
+        own = [it for it in self.impls if it.origin == OWN]
+        for it in own:
+            text += [it.name, *it.asks, *([it.trait, it.of] if it.of else [])]
+        for it in self.traits.values():
+            if it.local:
+                text += [it.name, *it.supers]
+        self.library_traits()
+        while text:
+            new = set().union(*map(names_in, text)) - used
+            used |= new
+            text = [clause for it in new if it in self.traits for clause in self.traits[it].supers]
+            text += [self.traits[it].name for it in new if it in self.traits]
+            for it in self.impls:
+                if it.of and it.name in new and it.origin == OTHER and is_blanket(it):
+                    text += [it.trait, *it.asks]
+        self.find_types(used)
+        known = {*self.types, *self.traits, *(used & described.PLAIN)}
+        self.traits = {name: it for name, it in self.traits.items() if name in used or it.local}
+        self.impls = [it for it in self.impls if it.origin == OWN or it.name in used and self.speaks_of(it, known)]
+
+    def speaks_of(self, impl, known):
+        params = {name for _, name in impl.params}
+        said = names_in(" ".join([impl.trait, impl.of or "", *impl.asks])) - params - KEYWORDS
+        return all(it in known or it.isdigit() for it in said)
+
+    def library_traits(self):
+        """Adds the traits of the library, and those of other crates with as many parameters as were seen."""
+        known = library.library()
+        for name, params in known.traits.items():
+            here = self.named.get(name, name)
+            params = [(sort, self.of.free_name(sort, it)) for sort, it, _ in params]
+            supers = [put(it, self.named) for it in known.supers.get(name, [])]
+            self.traits.setdefault(here, Trait("the library", here, params, supers, [], name in known.autos, False))
+        for id, name in self.of.names.items():
+            if self.of.kind_of(id) == "trait" and name not in self.traits:
+                params = [(sort, self.of.free_name(sort, seen_name(sort, at))) for at, sort in enumerate(self.of.sorts_of(id))]
+                self.traits[name] = Trait("another crate", name, params, [], [], False, False)
+
+    def find_types(self, used):
+        """Finds the types that are spoken of, with their parameters."""
+        known = library.library().types
+        here = {self.named.get(name, name): params for name, params in known.items()}
+        for name in sorted(used):
+            id = self.ids.get(name)
+            if id and self.of.kind_of(id) in ("struct", "enum", "union", "primitive", None, "foreign_type", "extern_type"):
+                sorts = self.of.sorts_of(id)
+                self.types[name] = [(sort, seen_name(sort, at)) for at, sort in enumerate(sorts)]
+            elif name in here:
+                self.types[name] = [it[:2] for it in here[name]]
+
+    def is_local_type(self, name):
+        return name in self.ids and self.of.is_local(self.ids[name])
+
+
+# Words of the language that stand in types.
+KEYWORDS = {"mut", "const", "dyn", "fn", "for", "unsafe", "extern", "C", "system", "where", "Self"}
+
+
+def seen_name(sort, at):
+    return {"lifetime": f"'x{at}", "type": f"X{at}", "const": f"N{at}"}[sort]
+
+
+def names_first(text):
+    return re.match(r"\w+", text)[0]
+
+
+def is_blanket(impl):
+    return impl.of in [name for _, name in impl.params]
+
+
+def is_whole(lacks):
+    """Says whether what isn't spelled is only what answers leave open of all: regions, and what is sized."""
+    return not set(lacks) - {described.OUTLIVES, described.SIZED}
+
+
+def statements(crate):
+    """Gives the statements of a crate, and how often something was left out, by reasons."""
+    lines, missing = [], collections.Counter()
+
+    def add(text, what, lacks, place):
+        missing.update(set(lacks))
+        left = f"{what}: {' and '.join(dict.fromkeys(lacks))}, {place}"
+        if not lacks:
+            lines.append(f"{text};")
+        elif text and is_whole(lacks):
+            lines.append(f"{text}; // {left}")
+        else:
+            lines.append(f"// {left}")
+
+    for name, params in crate.types.items():
+        lines.append(f"struct {name}{generic(params)};")
+    for it in crate.traits.values():
+        lines.append(f"{'auto ' if it.auto else ''}trait {it.name}{generic(it.params)};")
+    for it in crate.traits.values():
+        if it.supers:
+            lines.append(f"super {it.name}: {', '.join(it.supers)};")
+        if it.lacks:
+            add("", it.name, it.lacks, it.place)
+    for it in crate.impls:
+        if it.of:
+            add(impl_text(it), "beside" if is_whole(it.lacks) else impl_text(it), it.lacks, it.place)
+        else:
+            add("", f"impl {it.name}", [it.trait], it.place)
+    return lines, missing
+
+
+def text(crate):
+    """Gives the text of a crate's statements, with what is left out as comments."""
+    lines, missing = statements(crate)
+    told = [f"// {crate.of.name} {crate.of.version}, as rustdoc describes it: its types, its traits, and its impls."]
+    told += [
+        "// What can't be spelled is a comment, with its reason and place: of an impl bounds by lifetimes and by Sized, which",
+        "// answers leave open; where more is left out, or of a trait, all of it.",
+        *lines,
+    ]
+    told.append(f"// Not spelled: {sum(missing.values())}" + "".join(f"; {many} {why}" for why, many in missing.most_common()))
+    return "\n".join(told) + "\n"
