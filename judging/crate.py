@@ -174,6 +174,14 @@ def is_whole(lacks):
     return not set(lacks) - {described.OUTLIVES, described.SIZED}
 
 
+def declarations(crate):
+    """Gives the statements that say which types and traits there are, and what traits state."""
+    lines = [f"struct {name}{generic(params)};" for name, params in crate.types.items()]
+    for it in crate.traits.values():
+        lines.append(f"{'auto ' if it.auto else ''}trait {it.name}{generic(it.params)};")
+    return lines + [f"super {it.name}: {', '.join(it.supers)};" for it in crate.traits.values() if it.supers]
+
+
 def statements(crate):
     """Gives the statements of a crate, and how often something was left out, by reasons."""
     lines, missing = [], collections.Counter()
@@ -188,15 +196,10 @@ def statements(crate):
         else:
             lines.append(f"// {left}")
 
-    for name, params in crate.types.items():
-        lines.append(f"struct {name}{generic(params)};")
+    lines += declarations(crate)
     for it in crate.traits.values():
-        lines.append(f"{'auto ' if it.auto else ''}trait {it.name}{generic(it.params)};")
-    for it in crate.traits.values():
-        if it.supers:
-            lines.append(f"super {it.name}: {', '.join(it.supers)};")
         if it.lacks:
-            add("", it.name, it.lacks, it.place)
+            add("", f"super {it.name}", it.lacks, it.place)
     for it in crate.impls:
         if it.of:
             add(impl_text(it), "beside" if is_whole(it.lacks) else impl_text(it), it.lacks, it.place)

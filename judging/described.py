@@ -52,6 +52,8 @@ class Described:
         self.top = os.path.dirname(os.path.dirname(root["span"]["filename"])) if root["span"] else ""
         # The parameters of other crates' items, as many as were seen of each; the sort of each name of a parameter.
         self.seen, self.sorts, self.names, self.taken = {}, {}, {}, set()
+        # Types as they begin that are no items, each with the parameters of what it stood in.
+        self.forms = {}
         self.local_names()
 
     def local_names(self):
@@ -75,7 +77,8 @@ class Described:
         return next(iter(it["inner"])) if it else self.paths.get(str(id), {}).get("kind")
 
     def is_local(self, id):
-        return str(id) in self.names and self.paths[str(id)]["crate_id"] == self.crate
+        it = self.index.get(str(id)) or self.paths.get(str(id))
+        return it is not None and it["crate_id"] == self.crate
 
     def is_known(self, id):
         """Says whether the text of the standard library has an item, which no other here hides."""
@@ -139,6 +142,19 @@ def described_param(it):
     return SORTS[kind], it["name"], it["kind"][kind].get("default") or ""
 
 
+def form_of(kind, it, text):
+    """Gives how types of a form are written; of function pointers and trait objects, one that was seen."""
+    mut = kind in ("raw_pointer", "borrowed_ref") and it["is_mutable"]
+    if kind == "tuple":
+        return "(X0,)" if len(it) == 1 else f"({', '.join(f'X{at}' for at in range(len(it)))})"
+    return {
+        "slice": "[X0]",
+        "array": "[X0; N1]",
+        "raw_pointer": "*mut X0" if mut else "*const X0",
+        "borrowed_ref": "&'x0 mut X1" if mut else "&'x0 X1",
+    }.get(kind, text)
+
+
 class Scope:
     """The parameters of an item, under which types are spelled: by their names in the source, as far as those are free."""
 
@@ -179,7 +195,10 @@ class Scope:
         spell = getattr(self, f"spell_{kind}", None)
         if spell is None:
             raise Unspelled(DECLARED if kind == "qualified_path" else FORM)
-        return spell(x, outer) if kind == "dyn_trait" else spell(x)
+        text = spell(x, outer) if kind == "dyn_trait" else spell(x)
+        if kind not in ("generic", "resolved_path"):
+            self.of.forms[form_of(kind, x, text)] = self.params
+        return text
 
     def spell_primitive(self, name):
         if name not in PLAIN and name != "never":

@@ -8,11 +8,12 @@ from judging.asking import split_list
 
 FILE = os.path.join(os.path.dirname(os.path.realpath(__file__)), "library.txt")
 WORD = re.compile(r"'?\w+")
+ITEM = re.compile(r"(?:(auto|unsized) )?(struct|trait) (\w+)(?:<(.*)>)?")
 # The end of a statement, which the length of an array isn't.
 END = re.compile(r";(?![^\[\]]*\])")
 
 # Parameters as (sort, name, default), by the name of a type or a trait; what a trait states; impls.
-Library = collections.namedtuple("Library", "types traits autos supers impls")
+Library = collections.namedtuple("Library", "types unsized traits autos supers impls")
 # What an impl has: parameters as (sort, name); its trait with arguments, the type, and bounds, each as text.
 Impl = collections.namedtuple("Impl", "params trait of asks")
 
@@ -66,7 +67,7 @@ def impls_of(text):
 @functools.lru_cache(maxsize=None)
 def library():
     """Gives the library, read once."""
-    found = Library({}, {}, set(), collections.defaultdict(list), [])
+    found = Library({}, set(), {}, set(), collections.defaultdict(list), [])
     with open(FILE, encoding="utf-8") as it:
         lines = [line for line in it.read().splitlines() if not line.startswith("//")]
     for text in END.split(" ".join(" ".join(lines).split())):
@@ -78,8 +79,8 @@ def library():
             trait, _, stated = rest.partition(": ")
             found.supers[trait].extend(split_list(stated))
         elif kind:
-            name, _, params = rest.removeprefix("trait ").rstrip(">").partition("<")
-            (found.types if kind == "struct" else found.traits)[name] = params_of(params)
-            if kind == "auto":
-                found.autos.add(name)
+            kind, of, name, params = ITEM.fullmatch(text).groups()
+            (found.traits if of == "trait" else found.types)[name] = params_of(params)
+            if kind:
+                (found.autos if kind == "auto" else found.unsized).add(name)
     return found

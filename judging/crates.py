@@ -1,0 +1,222 @@
+"""Judges what `ask` says of crates that nobody here wrote: rustc has accepted each, so no two impls of one trait have a
+type in common, and of each impl what its trait states holds where its own bounds do."""
+import collections
+import itertools
+import subprocess
+import time
+
+from judging import asking, crate, described, headers, worlds
+from judging.crate import OTHER, OWN, head, is_blanket, is_whole
+from judging.library import library, put
+
+# How deep goals are looked into: a bound of two impls stands on variables, and a goal that states something on none.
+BOUNDS_AT, STATED_AT = 3, 8
+# How many questions are asked at once, and for how many seconds; one alone that takes longer is given up on.
+AT_ONCE, TOGETHER, ALONE = 400, 60, 10
+
+# What comes of a pair of impls, or of what a trait states.
+BY_HEADER, BY_BOUND, BY_SIZED, HOLDS = "apart by their headers", "apart by a bound", "apart by Sized", "hold"
+# What is open, and why; and what `ask` says otherwise than rustc.
+UNSPELLED, ELSEWHERE = "open: not spelled", "open: of another crate"
+AMBIGUOUS, DEPTH, LATE, WRONG = "open: ambiguous", "open: depth", "open: late", "wrong"
+# Whose limit it is.
+WHOSE = {BY_SIZED: "rustc's rule", UNSPELLED: "the reader", ELSEWHERE: "the reader", AMBIGUOUS: "ours", DEPTH: "ours", LATE: "ours", WRONG: "ours"}
+
+# What is judged: its place, what is said of it, and what comes of it.
+Judged = collections.namedtuple("Judged", "place what comes")
+
+
+class Asker:
+    """Asks of one crate: groups of questions, each answered by as many lines."""
+
+    def __init__(self, program, it):
+        self.program = program
+        self.begin = "\n".join([*crate.declarations(it), worlds.param_names(it), ""])
+
+    def ask(self, rules, groups, count=len):
+        """Gives the answers to each group, or none where they come too late."""
+        text, found = self.begin + "\n".join([*rules, ""]), []
+        for at in range(0, len(groups), AT_ONCE):
+            found += self.some(text, groups[at : at + AT_ONCE], count)
+        return found
+
+    def some(self, text, groups, count):
+        asked = text + "".join(f"{it};\n" for group in groups for it in group)
+        try:
+            seconds = TOGETHER if len(groups) > 1 else ALONE
+            ran = subprocess.run([self.program, "-"], input=asked, capture_output=True, text=True, timeout=seconds)
+        except subprocess.TimeoutExpired:
+            if len(groups) == 1:
+                return [None]
+            half = len(groups) // 2
+            return self.some(text, groups[:half], count) + self.some(text, groups[half:], count)
+        lines = iter(ran.stdout.splitlines())
+        found = [list(itertools.islice(lines, count(it))) for it in groups]
+        if ran.returncode or sum(map(len, found)) != sum(map(count, groups)):
+            raise asking.Wrong(f"{self.program} has status {ran.returncode}: {ran.stderr.strip()[:300]}")
+        return found
+
+
+def told(answer):
+    return answer.split("; ")[0]
+
+
+def open_because(answers, whole):
+    """Says what comes of a goal that no answer settles: with what is spelled, with all impls, and with any beside."""
+    spelled, own, any_ = answers
+    if own == "no":
+        return ELSEWHERE
+    if spelled == "no" or not whole or own == "yes":
+        return UNSPELLED
+    late = None in (spelled, own, any_)
+    return LATE if late else DEPTH if "maybe: depth" in (spelled, own, any_) else AMBIGUOUS
+
+
+def pairs_of(it):
+    """Gives the pairs of impls of one trait: of the crate's own, and of these with those of all types."""
+    groups = collections.defaultdict(list)
+    for impl in it.impls:
+        if impl.of and (impl.origin == OWN or impl.origin == OTHER and is_blanket(impl)):
+            groups[impl.name].append(impl)
+    for some in groups.values():
+        for one, other in itertools.combinations(some, 2):
+            if OWN in (one.origin, other.origin):
+                yield one, other
+
+
+def judge_pairs(it, asker):
+    pairs = list(pairs_of(it))
+    answers = asker.ask([], [[f"overlap {head(one)}, {head(other)}"] for one, other in pairs])
+    found, met = [], []
+    for pair, answer in zip(pairs, answers):
+        said = told(answer[0]) if answer else LATE
+        if said.startswith("apart"):
+            found.append(Judged(pair[0].place, None, BY_HEADER))
+        else:
+            met.append((pair, said))
+    return found + judge_met(it, asker, met)
+
+
+def variables(impls):
+    """Gives for the parameters of each of two impls variables, behind those of the other."""
+    count, found = collections.Counter(), []
+    for impl in impls:
+        values = {}
+        for sort, name in impl.params:
+            values[name] = {"type": "?", "lifetime": "'?", "const": "?c"}[sort] + str(count[sort])
+            count[sort] += 1
+        found.append(values)
+    return found
+
+
+def arguments(impl):
+    """Gives the arguments of an impl's trait, the type that it is of first."""
+    _, _, rest = impl.trait.partition("<")
+    return [impl.of, *asking.split_list(rest[:-1])]
+
+
+def judge_met(it, asker, met):
+    """Asks of impls whose headers meet whether a bound of theirs tells them apart."""
+    groups, sized = [], []
+    for pair, _ in met:
+        values = variables(pair)
+        lists = [f"[{', '.join(put(arg, its) for arg in arguments(impl))}]" for impl, its in zip(pair, values)]
+        asks = [put(ask, its) for impl, its in zip(pair, values) for ask in impl.asks]
+        groups.append([f"args {' == '.join(lists)}", *(f"then prove {ask} at {BOUNDS_AT}" for ask in asks)])
+        sized.append([its[name] for impl, its in zip(pair, values) for sort, name in impl.params if sort == "type" and name not in impl.unsized])
+    answers = [asker.ask(rules, groups) for rules in (worlds.spelled(it), worlds.all_own(it), worlds.perhaps(it))]
+    found = []
+    for (pair, said), needs, *some in zip(met, sized, *answers):
+        comes = met_because(it, pair, needs, some)
+        found.append(Judged(pair[0].place, f"{said}, of {pair[1].place}: {head(pair[0])}, {head(pair[1])}", comes))
+    return found
+
+
+def is_unsized(it, text):
+    return headers.is_unsized(text) or text in {it.named.get(name, name) for name in library().unsized}
+
+
+def met_because(it, pair, sized, answers):
+    if None in answers:
+        return LATE
+    bound = asking.read(answers[0][0]).bound
+    if any(is_unsized(it, bound.get(var, "")) for var in sized):
+        return BY_SIZED
+    goals = list(zip(*[[told(line) for line in it[1:]] for it in answers]))
+    whole = all(is_whole(it.lacks) for it in pair)
+    if any(it[2] == "no" for it in goals):
+        return BY_BOUND
+    left = [open_because(it, True) for it in goals if it[0] != "yes"]
+    for why in (ELSEWHERE, UNSPELLED):
+        if why in left or why == UNSPELLED and not whole:
+            return why
+    return DEPTH if DEPTH in left else AMBIGUOUS if left else WRONG
+
+
+def stated(it):
+    """Gives what has to hold of each impl: the impl, and a clause that its trait states, or why that isn't spelled."""
+    for impl in it.impls:
+        trait = it.traits.get(impl.name)
+        if impl.origin != OWN or trait is None or not impl.of:
+            continue
+        values = {"Self": impl.of, **dict(zip([name for _, name in trait.params], arguments(impl)[1:]))}
+        for clause in trait.supers:
+            yield impl, put(clause, values)
+
+
+def judge_stated(it, asker):
+    goals = list(stated(it))
+    groups = [
+        [f"assume {', '.join(impl.asks)}" if impl.asks else "assume", f"prove {goal} at {STATED_AT}"] for impl, goal in goals
+    ]
+    one = lambda group: 1
+    first = asker.ask(worlds.spelled(it), groups, one)
+    found, left = [], []
+    for at, answer in enumerate(first):
+        if answer and told(answer[0]) == "yes":
+            found.append(Judged(goals[at][0].place, None, HOLDS))
+        else:
+            left.append(at)
+    again = [asker.ask(rules, [groups[at] for at in left], one) for rules in (worlds.all_own(it), worlds.perhaps(it))]
+    for at, *some in zip(left, *again):
+        impl, goal = goals[at]
+        said = [told(answer[0]) if answer else None for answer in (first[at], *some)]
+        if said[2] == "no":
+            comes = WRONG if is_whole(impl.lacks) else UNSPELLED
+        else:
+            comes = open_because(said, is_whole(impl.lacks))
+        found.append(Judged(impl.place, f"{said[0] or 'late'}: {goal}, as {impl.name} states", comes))
+    return found
+
+
+def show(name, found, shown):
+    """Prints what is not settled, and gives figures."""
+    seen = collections.Counter(it.comes for it in found)
+    for it in sorted(found, key=lambda it: it.comes):
+        if it.comes not in (BY_HEADER, BY_BOUND, BY_SIZED, HOLDS) and (it.comes in shown or not shown):
+            print(f"    {it.place}: {it.what}; {it.comes} ({WHOSE[it.comes]})")
+    return ", ".join(f"{many:,} {why}" for why, many in seen.most_common()) or "none"
+
+
+def judged(file, program):
+    """Judges a crate, shows what is open and what is wrong, and gives how much was of each sort."""
+    began, it = time.time(), crate.Crate(file)
+    asker = Asker(program, it)
+    pairs, goals = judge_pairs(it, asker), judge_stated(it, asker)
+    own = [impl for impl in it.impls if impl.origin == OWN]
+    whole = sum(1 for impl in own if impl.of and is_whole(impl.lacks))
+    print(f"{it.of.name} {it.of.version}: {len(own)} impls, {whole} of them spelled", flush=True)
+    print(f"  {len(pairs):,} pairs: {show('pairs', pairs, ())}")
+    print(f"  {len(goals):,} stated: {show('stated', goals, ())}; {time.time() - began:.0f} seconds", flush=True)
+    return [("pairs", one.comes) for one in pairs] + [("stated", one.comes) for one in goals]
+
+
+def judge(files, program):
+    """Judges crates, and gives how much is wrong."""
+    seen = collections.Counter()
+    for file in files:
+        seen.update(judged(file, program))
+    for kind in ("pairs", "stated"):
+        some = {why: many for (of, why), many in seen.items() if of == kind}
+        print(f"{kind} of {len(files)} crates: {sum(some.values()):,}; " + ", ".join(f"{many:,} {why}" for why, many in sorted(some.items())))
+    return sum(many for (_, why), many in seen.items() if why == WRONG)
