@@ -18,7 +18,8 @@ AT_ONCE, TOGETHER, ALONE = 400, 60, 10
 BY_HEADER, BY_BOUND, BY_SIZED, HOLDS = "apart by their headers", "apart by a bound", "apart by Sized", "hold"
 # What is open, and why; and what `ask` says otherwise than rustc.
 UNSPELLED, ELSEWHERE = "open: not spelled", "open: of another crate"
-AMBIGUOUS, DEPTH, LATE, WRONG = "open: ambiguous", "open: depth", "open: late", "wrong"
+AMBIGUOUS, DEPTH, LATE, WRONG = "open: ambiguous", "open: depth", "open: late or not asked", "wrong"
+OPEN = "maybe: ambiguous"
 # Whose limit it is.
 WHOSE = {BY_SIZED: "rustc's rule", UNSPELLED: "the reader", ELSEWHERE: "the reader", AMBIGUOUS: "ours", DEPTH: "ours", LATE: "ours", WRONG: "ours"}
 
@@ -63,13 +64,15 @@ def told(answer):
 
 def open_because(answers, whole):
     """Says what comes of a goal that no answer settles: with what is spelled, with all impls, and with any beside."""
-    spelled, own, any_ = answers
+    spelled, own, _ = answers
+    if not whole:
+        return UNSPELLED
     if own == "no":
         return ELSEWHERE
-    if spelled == "no" or not whole or own == "yes":
+    if "no" in answers or own == "yes":
         return UNSPELLED
-    late = None in (spelled, own, any_)
-    return LATE if late else DEPTH if "maybe: depth" in (spelled, own, any_) else AMBIGUOUS
+    left = {OPEN: AMBIGUOUS, "maybe: depth": DEPTH}
+    return left.get(spelled, LATE)
 
 
 def pairs_of(it):
@@ -115,19 +118,47 @@ def arguments(impl):
     return [impl.of, *asking.split_list(rest[:-1])]
 
 
+def opened(pair):
+    """Gives a question that makes the headers of two impls one, what both ask for, and the variables that are sized."""
+    values = variables(pair)
+    lists = [f"[{', '.join(put(arg, its) for arg in arguments(impl))}]" for impl, its in zip(pair, values)]
+    asks = [put(ask, its) for impl, its in zip(pair, values) for ask in impl.asks]
+    sized = [
+        its[name]
+        for impl, its in zip(pair, values)
+        for sort, name in impl.params
+        if sort == "type" and name not in impl.unsized
+    ]
+    return f"args {' == '.join(lists)}", asks, sized
+
+
+def is_open(clause, bound):
+    """Says whether what a clause is of is a variable: then an impl may always be its."""
+    of = clause.partition(": ")[0]
+    while of in bound:
+        of = bound[of]
+    return of.startswith("?")
+
+
 def judge_met(it, asker, met):
-    """Asks of impls whose headers meet whether a bound of theirs tells them apart."""
-    groups, sized = [], []
-    for pair, _ in met:
-        values = variables(pair)
-        lists = [f"[{', '.join(put(arg, its) for arg in arguments(impl))}]" for impl, its in zip(pair, values)]
-        asks = [put(ask, its) for impl, its in zip(pair, values) for ask in impl.asks]
-        groups.append([f"args {' == '.join(lists)}", *(f"then prove {ask} at {BOUNDS_AT}" for ask in asks)])
-        sized.append([its[name] for impl, its in zip(pair, values) for sort, name in impl.params if sort == "type" and name not in impl.unsized])
-    answers = [asker.ask(rules, groups) for rules in (worlds.spelled(it), worlds.all_own(it), worlds.perhaps(it))]
+    """Asks of impls whose headers meet whether a bound of theirs tells them apart: of each bound by itself."""
+    all_opened = [opened(pair) for pair, _ in met]
+    bounds = [asking.read(some[0]).bound if some else {} for some in asker.ask([], [[asked] for asked, _, _ in all_opened])]
+    groups = {
+        (at, ask): [asked, f"then prove {ask} at {BOUNDS_AT}"]
+        for at, (asked, asks, _) in enumerate(all_opened)
+        for ask in asks
+        if not is_open(ask, bounds[at])
+    }
+    answers = collections.defaultdict(list)
+    for rules in (worlds.spelled(it), worlds.all_own(it), worlds.perhaps(it)):
+        for key, some in zip(groups, asker.ask(rules, list(groups.values()))):
+            answers[key].append(told(some[1]) if some else LATE)
     found = []
-    for (pair, said), needs, *some in zip(met, sized, *answers):
-        comes = met_because(it, pair, needs, some)
+    for at, ((pair, said), (_, asks, sized)) in enumerate(zip(met, all_opened)):
+        goals = [answers.get((at, ask), [OPEN] * 3) for ask in asks]
+        is_sized = not any(is_unsized(it, bounds[at].get(var, "")) for var in sized)
+        comes = met_because(goals, all(is_whole(impl.lacks) for impl in pair)) if is_sized else BY_SIZED
         found.append(Judged(pair[0].place, f"{said}, of {pair[1].place}: {head(pair[0])}, {head(pair[1])}", comes))
     return found
 
@@ -136,21 +167,14 @@ def is_unsized(it, text):
     return headers.is_unsized(text) or text in {it.named.get(name, name) for name in library().unsized}
 
 
-def met_because(it, pair, sized, answers):
-    if None in answers:
-        return LATE
-    bound = asking.read(answers[0][0]).bound
-    if any(is_unsized(it, bound.get(var, "")) for var in sized):
-        return BY_SIZED
-    goals = list(zip(*[[told(line) for line in it[1:]] for it in answers]))
-    whole = all(is_whole(it.lacks) for it in pair)
+def met_because(goals, whole):
+    """Says what comes of impls whose headers meet, by what is said of each bound."""
     if any(it[2] == "no" for it in goals):
         return BY_BOUND
+    if not whole:
+        return UNSPELLED
     left = [open_because(it, True) for it in goals if it[0] != "yes"]
-    for why in (ELSEWHERE, UNSPELLED):
-        if why in left or why == UNSPELLED and not whole:
-            return why
-    return DEPTH if DEPTH in left else AMBIGUOUS if left else WRONG
+    return next((why for why in (ELSEWHERE, UNSPELLED, LATE, DEPTH, AMBIGUOUS) if why in left), WRONG)
 
 
 def stated(it):
@@ -180,12 +204,12 @@ def judge_stated(it, asker):
     again = [asker.ask(rules, [groups[at] for at in left], one) for rules in (worlds.all_own(it), worlds.perhaps(it))]
     for at, *some in zip(left, *again):
         impl, goal = goals[at]
-        said = [told(answer[0]) if answer else None for answer in (first[at], *some)]
+        said = [told(answer[0]) if answer else LATE for answer in (first[at], *some)]
         if said[2] == "no":
             comes = WRONG if is_whole(impl.lacks) else UNSPELLED
         else:
             comes = open_because(said, is_whole(impl.lacks))
-        found.append(Judged(impl.place, f"{said[0] or 'late'}: {goal}, as {impl.name} states", comes))
+        found.append(Judged(impl.place, f"{said[0]}: {goal}, as {impl.name} states", comes))
     return found
 
 
