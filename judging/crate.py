@@ -1,5 +1,6 @@
 """Makes statements of a crate that rustdoc describes: its types, its traits, and its impls."""
 import collections
+import itertools
 import re
 
 from judging import described, library
@@ -39,7 +40,8 @@ class Crate:
         self.of = Described(file)
         # What is seen of other crates' items counts from the start: all is read twice.
         for _ in range(2):
-            self.traits, self.impls, self.aliases = {}, [], []
+            self.traits, self.impls = {}, []
+            self.of.sorts.clear()
             for id, item in sorted(self.of.index.items(), key=lambda it: int(it[0])):
                 kind, it = next(iter(item["inner"].items()))
                 if kind == "trait":
@@ -143,11 +145,13 @@ class Crate:
         here = {self.named.get(name, name): params for name, params in known.items()}
         for name in sorted(used):
             id = self.ids.get(name)
-            if id and self.of.kind_of(id) in ("struct", "enum", "union", "primitive", None, "foreign_type", "extern_type"):
-                sorts = self.of.sorts_of(id)
-                self.types[name] = [(sort, seen_name(sort, at)) for at, sort in enumerate(sorts)]
-            elif name in here:
-                self.types[name] = [it[:2] for it in here[name]]
+            if name in here:
+                self.types[name] = [(sort, self.of.free_name(sort, it)) for sort, it, _ in here[name]]
+            elif id and self.of.kind_of(id) not in ("trait", "type_alias"):
+                params = self.of.params_of(id)
+                names = [it[1] for it in params] if params else itertools.repeat(None)
+                sorts = enumerate(zip(self.of.sorts_of(id), names))
+                self.types[name] = [(sort, self.of.free_name(sort, it or seen_name(sort, at))) for at, (sort, it) in sorts]
 
     def is_local_type(self, name):
         return name in self.ids and self.of.is_local(self.ids[name])
@@ -187,7 +191,7 @@ def statements(crate):
     lines, missing = [], collections.Counter()
 
     def add(text, what, lacks, place):
-        missing.update(set(lacks))
+        missing.update(dict.fromkeys(lacks, 1))
         left = f"{what}: {' and '.join(dict.fromkeys(lacks))}, {place}"
         if not lacks:
             lines.append(f"{text};")

@@ -2,6 +2,7 @@
 type in common, and of each impl what its trait states holds where its own bounds do."""
 import collections
 import itertools
+import resource
 import subprocess
 import time
 
@@ -11,8 +12,8 @@ from judging.library import library, put
 
 # How deep goals are looked into: a bound of two impls stands on variables, and a goal that states something on none.
 BOUNDS_AT, STATED_AT = 3, 8
-# How many questions are asked at once, and for how many seconds; one alone that takes longer is given up on.
-AT_ONCE, TOGETHER, ALONE = 400, 60, 10
+# How many seconds of the processor the program has; a question that takes as long is given up on.
+SECONDS = 15
 
 # What comes of a pair of impls, or of what a trait states.
 BY_HEADER, BY_BOUND, BY_SIZED, HOLDS = "apart by their headers", "apart by a bound", "apart by Sized", "hold"
@@ -35,25 +36,28 @@ class Asker:
         self.begin = "\n".join([*crate.declarations(it), worlds.param_names(it), ""])
 
     def ask(self, rules, groups, count=len):
-        """Gives the answers to each group, or none where they come too late."""
+        """Gives the answers to each group, or nothing where they come too late."""
         text, found = self.begin + "\n".join([*rules, ""]), []
-        for at in range(0, len(groups), AT_ONCE):
-            found += self.some(text, groups[at : at + AT_ONCE], count)
+        while len(found) < len(groups):
+            some = self.fitting(groups[len(found) :], asking.MOST_BYTES - len(text))
+            found += self.answered(text, some, count) or [None]
         return found
 
-    def some(self, text, groups, count):
+    def fitting(self, groups, room):
+        """Gives as many of the first groups as have room in a text."""
+        ends = itertools.accumulate(sum(len(it) + 2 for it in group) for group in groups)
+        many = sum(1 for _ in itertools.takewhile(lambda end: end <= room, ends))
+        return groups[: max(many, 1)]
+
+    def answered(self, text, groups, count):
+        """Gives the answers to those of the first groups that are answered in time."""
         asked = text + "".join(f"{it};\n" for group in groups for it in group)
-        try:
-            seconds = TOGETHER if len(groups) > 1 else ALONE
-            ran = subprocess.run([self.program, "-"], input=asked, capture_output=True, text=True, timeout=seconds)
-        except subprocess.TimeoutExpired:
-            if len(groups) == 1:
-                return [None]
-            half = len(groups) // 2
-            return self.some(text, groups[:half], count) + self.some(text, groups[half:], count)
+        limit = lambda: resource.setrlimit(resource.RLIMIT_CPU, (SECONDS, SECONDS))
+        ran = subprocess.run([self.program, "-"], input=asked, capture_output=True, text=True, preexec_fn=limit)
         lines = iter(ran.stdout.splitlines())
         found = [list(itertools.islice(lines, count(it))) for it in groups]
-        if ran.returncode or sum(map(len, found)) != sum(map(count, groups)):
+        found = [some for some, group in zip(found, groups) if len(some) == count(group)]
+        if ran.returncode > 0 or ran.returncode == 0 and len(found) < len(groups):
             raise asking.Wrong(f"{self.program} has status {ran.returncode}: {ran.stderr.strip()[:300]}")
         return found
 

@@ -114,7 +114,8 @@ class Described:
 
     def free_name(self, sort, name):
         """Gives a name for a parameter, which names no item and no parameter of another sort."""
-        while name in self.taken or name in WORDS or self.sorts.setdefault(name, sort) != sort:
+        items = (self.taken, WORDS, library().types, library().traits)
+        while any(name in some for some in items) or self.sorts.setdefault(name, sort) != sort:
             name += "_"
         return name
 

@@ -13,7 +13,7 @@ ITEM = re.compile(r"(?:(auto|unsized) )?(struct|trait) (\w+)(?:<(.*)>)?")
 END = re.compile(r";(?![^\[\]]*\])")
 
 # Parameters as (sort, name, default), by the name of a type or a trait; what a trait states; impls.
-Library = collections.namedtuple("Library", "types unsized traits autos supers impls")
+Library = collections.namedtuple("Library", "types unsized traits autos supers impls never")
 # What an impl has: parameters as (sort, name); its trait with arguments, the type, and bounds, each as text.
 Impl = collections.namedtuple("Impl", "params trait of asks")
 
@@ -64,10 +64,19 @@ def impls_of(text):
             yield Impl([it for it in params if it[1] in used], put(trait, {"Self": of}), of, said)
 
 
+def form_head(text):
+    """Gives what is the same of all types of a form: a name, or signs."""
+    if text.startswith("&"):
+        return "&mut" if " mut " in text else "&"
+    if text[0] in "[(":
+        return text[0] + re.sub(r"[^;,]", "", text)
+    return text.partition("<")[0]
+
+
 @functools.lru_cache(maxsize=None)
 def library():
     """Gives the library, read once."""
-    found = Library({}, set(), {}, set(), collections.defaultdict(list), [])
+    found = Library({}, set(), {}, set(), collections.defaultdict(list), [], set())
     with open(FILE, encoding="utf-8") as it:
         lines = [line for line in it.read().splitlines() if not line.startswith("//")]
     for text in END.split(" ".join(" ".join(lines).split())):
@@ -75,6 +84,9 @@ def library():
         kind, _, rest = text.partition(" ")
         if text.startswith("impl"):
             found.impls.extend(impls_of(text))
+        elif kind == "never":
+            traits, _, types = rest.partition(" for ")
+            found.never.update((trait, form_head(of)) for trait in split_list(traits) for of in split_list(types))
         elif kind == "super":
             trait, _, stated = rest.partition(": ")
             found.supers[trait].extend(split_list(stated))

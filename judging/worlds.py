@@ -1,7 +1,7 @@
 """Rules for what a crate leaves open: what isn't spelled, and what other crates may have."""
 from judging import described
 from judging.crate import generic, impl_text, is_whole, names_first
-from judging.library import WORD, library
+from judging.library import WORD, form_head, library
 
 
 def param_names(crate):
@@ -39,11 +39,16 @@ def perhaps(crate):
     asked = asked_traits(crate)
     forms = foreign_forms(crate)
     of_params = [name for name, sort in crate.of.sorts.items() if sort == "type"]
-    known = {crate.named.get(it, it) for it in library().traits}
+    known = {crate.named.get(it, it): it for it in library().traits}
+    never = {crate.named.get(it, it): it for it in library().types}
     for it in crate.traits.values():
         if it.name not in asked:
             continue
-        rules += [rule(it, of, params) for of, params in forms if not it.local or of.startswith("(dyn ")]
+        for of, params in forms:
+            form = form_head(of)
+            is_never = (known.get(it.name), never.get(form, form)) in library().never
+            if of.startswith("(dyn ") or not it.local and not is_never:
+                rules.append(rule(it, of, params))
         if not it.local and it.name not in known:
             rules += [rule(it, of, []) for of in of_params]
     return list(dict.fromkeys(rules))
