@@ -187,39 +187,31 @@ def declarations(crate):
 
 
 def statements(crate):
-    """Gives the statements of a crate, and how often something was left out, by reasons."""
-    lines, missing = [], collections.Counter()
+    """Gives the statements of a crate, with a comment for what is left out, and how often it was, by reasons."""
+    lines, missing = declarations(crate), collections.Counter()
 
     def add(text, what, lacks, place):
         missing.update(dict.fromkeys(lacks, 1))
         left = f"{what}: {' and '.join(dict.fromkeys(lacks))}, {place}"
-        if not lacks:
-            lines.append(f"{text};")
-        elif text and is_whole(lacks):
-            lines.append(f"{text}; // {left}")
-        else:
-            lines.append(f"// {left}")
+        lines.append(f"{text}; // {left}" if text else f"// {left}")
 
-    lines += declarations(crate)
     for it in crate.traits.values():
         if it.lacks:
             add("", f"super {it.name}", it.lacks, it.place)
-    for it in crate.impls:
-        if it.of:
-            add(impl_text(it), "beside" if is_whole(it.lacks) else impl_text(it), it.lacks, it.place)
-        else:
+    for it in sorted(crate.impls, key=lambda it: it.origin == OTHER):
+        if not it.of:
             add("", f"impl {it.name}", [it.trait], it.place)
+        elif not it.lacks:
+            lines.append(f"{impl_text(it)};")
+        elif is_whole(it.lacks):
+            add(impl_text(it), "beside", it.lacks, it.place)
+        else:
+            add("", impl_text(it), it.lacks, it.place)
     return lines, missing
 
 
 def text(crate):
-    """Gives the text of a crate's statements, with what is left out as comments."""
+    """Gives the text of a crate's statements."""
     lines, missing = statements(crate)
-    told = [f"// {crate.of.name} {crate.of.version}, as rustdoc describes it: its types, its traits, and its impls."]
-    told += [
-        "// What can't be spelled is a comment, with its reason and place: of an impl bounds by lifetimes and by Sized, which",
-        "// answers leave open; where more is left out, or of a trait, all of it.",
-        *lines,
-    ]
-    told.append(f"// Not spelled: {sum(missing.values())}" + "".join(f"; {many} {why}" for why, many in missing.most_common()))
-    return "\n".join(told) + "\n"
+    left = "".join(f"; {many} {why}" for why, many in missing.most_common())
+    return "\n".join([f"// {crate.of.name} {crate.of.version}", *lines, f"// Not spelled: {sum(missing.values())}{left}", ""])

@@ -4,6 +4,7 @@ import collections
 import itertools
 import resource
 import subprocess
+import sys
 import time
 
 from judging import asking, crate, described, headers, worlds
@@ -15,6 +16,7 @@ BOUNDS_AT, STATED_AT = 3, 8
 # How many seconds of the processor the program has; a question that takes as long is given up on.
 SECONDS = 15
 
+PAIRS, STATED = "pairs of impls", "clauses that traits state"
 # What comes of a pair of impls, or of what a trait states.
 BY_HEADER, BY_BOUND, BY_SIZED, HOLDS = "apart by their headers", "apart by a bound", "apart by Sized", "hold"
 # What is open, and why; and what `ask` says otherwise than rustc.
@@ -22,7 +24,8 @@ UNSPELLED, ELSEWHERE = "open: not spelled", "open: of another crate"
 AMBIGUOUS, DEPTH, LATE, WRONG = "open: ambiguous", "open: depth", "open: late or not asked", "wrong"
 OPEN = "maybe: ambiguous"
 # Whose limit it is.
-WHOSE = {BY_SIZED: "rustc's rule", UNSPELLED: "the reader", ELSEWHERE: "the reader", AMBIGUOUS: "ours", DEPTH: "ours", LATE: "ours", WRONG: "ours"}
+WHOSE = {BY_SIZED: "by a rule of rustc alone", **dict.fromkeys((UNSPELLED, ELSEWHERE), "by the reader")}
+WHOSE |= dict.fromkeys((AMBIGUOUS, DEPTH, LATE, WRONG), "by ask")
 
 # What is judged: its place, what is said of it, and what comes of it.
 Judged = collections.namedtuple("Judged", "place what comes")
@@ -217,13 +220,16 @@ def judge_stated(it, asker):
     return found
 
 
-def show(name, found, shown):
-    """Prints what is not settled, and gives figures."""
-    seen = collections.Counter(it.comes for it in found)
+def counts(seen):
+    return ", ".join(f"{many:,} {why}" for why, many in sorted(seen.items(), key=lambda it: (-it[1], it[0]))) or "none"
+
+
+def show(what, found):
+    """Gives figures, and shows what is open or wrong."""
+    print(f"  {len(found):,} {what}: {counts(collections.Counter(it.comes for it in found))}")
     for it in sorted(found, key=lambda it: it.comes):
-        if it.comes not in (BY_HEADER, BY_BOUND, BY_SIZED, HOLDS) and (it.comes in shown or not shown):
-            print(f"    {it.place}: {it.what}; {it.comes} ({WHOSE[it.comes]})")
-    return ", ".join(f"{many:,} {why}" for why, many in seen.most_common()) or "none"
+        if it.comes in WHOSE and it.comes != BY_SIZED:
+            print(f"    {it.place}: {it.what}; {it.comes}, {WHOSE[it.comes]}")
 
 
 def judged(file, program):
@@ -232,19 +238,18 @@ def judged(file, program):
     asker = Asker(program, it)
     pairs, goals = judge_pairs(it, asker), judge_stated(it, asker)
     own = [impl for impl in it.impls if impl.origin == OWN]
-    whole = sum(1 for impl in own if impl.of and is_whole(impl.lacks))
-    print(f"{it.of.name} {it.of.version}: {len(own)} impls, {whole} of them spelled", flush=True)
-    print(f"  {len(pairs):,} pairs: {show('pairs', pairs, ())}")
-    print(f"  {len(goals):,} stated: {show('stated', goals, ())}; {time.time() - began:.0f} seconds", flush=True)
-    return [("pairs", one.comes) for one in pairs] + [("stated", one.comes) for one in goals]
+    whole = [impl for impl in own if impl.of and is_whole(impl.lacks)]
+    print(f"{it.of.name} {it.of.version}: {len(own)} impls, of which {len(whole)} are spelled")
+    show(PAIRS, pairs)
+    show(STATED, goals)
+    print(f"judge: {time.time() - began:.0f} seconds", file=sys.stderr, flush=True)
+    return collections.Counter([(PAIRS, one.comes) for one in pairs] + [(STATED, one.comes) for one in goals])
 
 
 def judge(files, program):
     """Judges crates, and gives how much is wrong."""
-    seen = collections.Counter()
-    for file in files:
-        seen.update(judged(file, program))
-    for kind in ("pairs", "stated"):
+    seen = sum((judged(it, program) for it in files), collections.Counter())
+    for kind in (PAIRS, STATED):
         some = {why: many for (of, why), many in seen.items() if of == kind}
-        print(f"{kind} of {len(files)} crates: {sum(some.values()):,}; " + ", ".join(f"{many:,} {why}" for why, many in sorted(some.items())))
+        print(f"{kind} of {len(files)} crates: {sum(some.values()):,}; {counts(some)}", flush=True)
     return sum(many for (_, why), many in seen.items() if why == WRONG)

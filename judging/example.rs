@@ -50,16 +50,23 @@ where
     type Unit = T;
 }
 
-impl<T> AsRef<T> for Row<T> {
-    fn as_ref(&self) -> &T {
-        &self.0
+impl<T: AsRef<U>, U> AsRef<U> for Row<T> {
+    fn as_ref(&self) -> &U {
+        self.0.as_ref()
     }
 }
 
 /// It is told from the one before by what is sized.
-impl AsRef<str> for Row<String> {
+impl<T: AsRef<str>> AsRef<str> for Row<T> {
     fn as_ref(&self) -> &str {
-        &self.0
+        self.0.as_ref()
+    }
+}
+
+/// For all that is known of other crates, `Option` could have `From<Row<T>>`.
+impl<T> Into<Option<T>> for Row<T> {
+    fn into(self) -> Option<T> {
+        Some(self.0)
     }
 }
 
