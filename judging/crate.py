@@ -1,6 +1,5 @@
 """Makes statements of a crate that rustdoc describes: its types, its traits, and its impls."""
 import collections
-import itertools
 import re
 
 from judging import described, library
@@ -136,7 +135,7 @@ class Crate:
             self.traits.setdefault(here, Trait("the library", here, params, supers, [], name in known.autos, False))
         for id, name in self.of.names.items():
             if self.of.kind_of(id) == "trait" and name not in self.traits:
-                params = [(sort, self.of.free_name(sort, seen_name(sort, at))) for at, sort in enumerate(self.of.sorts_of(id))]
+                params = self.params_of(id)
                 self.traits[name] = Trait("another crate", name, params, [], [], False, False)
 
     def find_types(self, used):
@@ -148,10 +147,14 @@ class Crate:
             if name in here:
                 self.types[name] = [(sort, self.of.free_name(sort, it)) for sort, it, _ in here[name]]
             elif id and self.of.kind_of(id) not in ("trait", "type_alias"):
-                params = self.of.params_of(id)
-                names = [it[1] for it in params] if params else itertools.repeat(None)
-                sorts = enumerate(zip(self.of.sorts_of(id), names))
-                self.types[name] = [(sort, self.of.free_name(sort, it or seen_name(sort, at))) for at, (sort, it) in sorts]
+                self.types[name] = self.params_of(id)
+
+    def params_of(self, id):
+        """Gives the parameters of an item: as many as were seen, where another crate has it."""
+        params = self.of.params_of(id)
+        if params is None:
+            params = [(sort, numbered(sort, at), "") for at, sort in enumerate(self.of.sorts_of(id))]
+        return [(sort, self.of.free_name(sort, name)) for sort, name, _ in params]
 
     def is_local_type(self, name):
         return name in self.ids and self.of.is_local(self.ids[name])
@@ -161,8 +164,9 @@ class Crate:
 KEYWORDS = {"mut", "const", "dyn", "fn", "for", "unsafe", "extern", "C", "system", "where", "Self"}
 
 
-def seen_name(sort, at):
-    return {"lifetime": f"'x{at}", "type": f"X{at}", "const": f"N{at}"}[sort]
+def numbered(sort, at, names=("'x", "X", "N")):
+    """Gives a parameter of a sort a name."""
+    return f"{dict(zip(('lifetime', 'type', 'const'), names))[sort]}{at}"
 
 
 def names_first(text):
@@ -214,4 +218,5 @@ def text(crate):
     """Gives the text of a crate's statements."""
     lines, missing = statements(crate)
     left = "".join(f"; {many} {why}" for why, many in missing.most_common())
-    return "\n".join([f"// {crate.of.name} {crate.of.version}", *lines, f"// Not spelled: {sum(missing.values())}{left}", ""])
+    last = f"// Not spelled: {sum(missing.values())}{left}"
+    return "\n".join([f"// {crate.of.name} {crate.of.version}", *lines, last, ""])

@@ -150,7 +150,8 @@ def is_open(clause, bound):
 def judge_met(it, asker, met):
     """Asks of impls whose headers meet whether a bound of theirs tells them apart: of each bound by itself."""
     all_opened = [opened(pair) for pair, _ in met]
-    bounds = [asking.read(some[0]).bound if some else {} for some in asker.ask([], [[asked] for asked, _, _ in all_opened])]
+    related = asker.ask([], [[asked] for asked, _, _ in all_opened])
+    bounds = [asking.read(some[0]).bound if some else {} for some in related]
     groups = {
         (at, ask): [asked, f"then prove {ask} at {BOUNDS_AT}"]
         for at, (asked, asks, _) in enumerate(all_opened)
@@ -197,9 +198,8 @@ def stated(it):
 
 def judge_stated(it, asker):
     goals = list(stated(it))
-    groups = [
-        [f"assume {', '.join(impl.asks)}" if impl.asks else "assume", f"prove {goal} at {STATED_AT}"] for impl, goal in goals
-    ]
+    assumed = [f"assume {', '.join(impl.asks)}" if impl.asks else "assume" for impl, _ in goals]
+    groups = [[has, f"prove {goal} at {STATED_AT}"] for has, (_, goal) in zip(assumed, goals)]
     one = lambda group: 1
     first = asker.ask(worlds.spelled(it), groups, one)
     found, left = [], []

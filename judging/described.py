@@ -19,14 +19,14 @@ UNKNOWN = "parameters that are not described"
 FORM = "a form of types"
 
 PLAIN = set("bool char str i8 i16 i32 i64 i128 isize u8 u16 u32 u64 u128 usize f16 f32 f64 f128".split())
-SORTS = {"lifetime": "lifetime", "type": "type", "const": "const"}
 # The words of the language that could be a name.
 WORDS = set(
-    "after args as assume assumptions at auto binding budget closure components const coroutine count dyn elaborate error"
-    " escapes expr extern fn fold for goals impl implied in infer infers inherent is key let limit may methods mode mut"
-    " null of one opaque overlap param prove pulls regions repeat rigid self sized skip solve solver stop struct super"
-    " supertraits then trait type unify unsafe variables visit walk where with witness Subtype AliasRelate".split()
+    "after args as assume assumptions at auto binding budget closure components const coroutine count dyn elaborate"
+    " error escapes expr extern fn fold for goals impl implied in infer infers inherent is key let limit may methods"
+    " mode mut null of one opaque overlap param prove pulls regions repeat rigid self sized skip solve solver stop"
+    " struct super supertraits then trait type unify unsafe variables visit walk where with witness".split()
 )
+ABIS = {"Rust": "", "C": 'extern "C" ', "System": 'extern "system" '}
 KINDS = ("struct", "enum", "union", "trait", "type_alias")
 
 
@@ -140,7 +140,7 @@ def described_param(it):
     kind = next(iter(it["kind"]))
     if it["kind"].get("type", {}).get("is_synthetic"):
         raise Unspelled(FORM)
-    return SORTS[kind], it["name"], it["kind"][kind].get("default") or ""
+    return kind, it["name"], it["kind"][kind].get("default") or ""
 
 
 def form_of(kind, it, text):
@@ -157,7 +157,7 @@ def form_of(kind, it, text):
 
 
 class Scope:
-    """The parameters of an item, under which types are spelled: by their names in the source, as far as those are free."""
+    """The parameters of an item, under which types are spelled: as the source names them, as far as that is free."""
 
     def __init__(self, described, params, me=None):
         self.of, self.names, self.params, self.me, self.made = described, {}, [], me, None
@@ -165,9 +165,9 @@ class Scope:
             self.declare(next(iter(it["kind"])), it["name"])
 
     def declare(self, sort, name):
-        spelled = self.of.free_name(SORTS[sort], name)
+        spelled = self.of.free_name(sort, name)
         self.names[name] = spelled
-        self.params.append((SORTS[sort], spelled))
+        self.params.append((sort, spelled))
 
     def region(self, name):
         if name == "'static" or name in self.names:
@@ -250,8 +250,8 @@ class Scope:
 
     def spell_function_pointer(self, it):
         header, sig = it["header"], it["sig"]
-        abi = "Rust" if header["abi"] == "Rust" else next(iter(header["abi"]), "") if isinstance(header["abi"], dict) else ""
-        if abi not in ("Rust", "C", "System") or it["generic_params"] or self.made is not None:
+        abi = header["abi"] if isinstance(header["abi"], str) else next(iter(header["abi"]))
+        if abi not in ABIS or it["generic_params"] or self.made is not None:
             raise Unspelled(FORM)
         self.made = []
         try:
@@ -267,10 +267,10 @@ class Scope:
                 raise Unspelled(FORM)
             output = re.sub(r"'of\d+", "'of0", output)
         binder = f"for<{', '.join(names[:count])}> " if count else ""
-        abi = {"Rust": "", "C": 'extern "C" ', "System": 'extern "system" '}[abi]
+        unsafe = "unsafe " if header["is_unsafe"] else ""
         dots = [".."] if sig["is_c_variadic"] else []
         back = "" if output == "()" else f" -> {output}"
-        return f"({binder}{'unsafe ' if header['is_unsafe'] else ''}{abi}fn({', '.join(inputs + dots)}){back})"
+        return f"({binder}{unsafe}{ABIS[abi]}fn({', '.join(inputs + dots)}){back})"
 
     def spell_dyn_trait(self, it, outer):
         named = []

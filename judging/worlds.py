@@ -1,6 +1,6 @@
 """Rules for what a crate leaves open: what isn't spelled, and what other crates may have."""
 from judging import described
-from judging.crate import generic, impl_text, is_whole, names_first
+from judging.crate import generic, impl_text, is_whole, names_first, numbered
 from judging.library import WORD, form_head, library
 
 
@@ -24,7 +24,7 @@ def all_own(crate):
 
 def rule(trait, of, params):
     """Gives an impl of a trait for a type, whatever the trait is over."""
-    own = [(sort, {"lifetime": f"'y{at}", "type": f"Y{at}", "const": f"M{at}"}[sort]) for at, (sort, _) in enumerate(trait.params)]
+    own = [(sort, numbered(sort, at, ("'y", "Y", "M"))) for at, (sort, _) in enumerate(trait.params)]
     args = f"<{', '.join(name for _, name in own)}>" if own else ""
     return f"impl{generic([*params, *own])} {trait.name}{args} for {of};"
 
