@@ -11,10 +11,10 @@ from judging import asking, crate, described, headers, worlds
 from judging.crate import OTHER, OWN, head, is_blanket, is_whole
 from judging.library import library, put
 
-# How deep goals are looked into: a bound of two impls stands on variables, and a goal that states something on none.
+# How deep goals are looked into: bounds of two impls, where variables stand; what a trait states, where there are none.
 BOUNDS_AT, STATED_AT = 3, 8
 # How many seconds of the processor the program has; a question that takes as long is given up on.
-SECONDS = 15
+SECONDS = 10
 
 PAIRS, STATED = "pairs of impls", "clauses that traits state"
 # What comes of a pair of impls, or of what a trait states.
@@ -197,27 +197,28 @@ def stated(it):
 
 
 def judge_stated(it, asker):
+    """Asks by what is spelled; what does not hold so, by more impls, if all is spelled that the impl itself asks for."""
     goals = list(stated(it))
     assumed = [f"assume {', '.join(impl.asks)}" if impl.asks else "assume" for impl, _ in goals]
-    groups = [[has, f"prove {goal} at {STATED_AT}"] for has, (_, goal) in zip(assumed, goals)]
-    one = lambda group: 1
-    first = asker.ask(worlds.spelled(it), groups, one)
-    found, left = [], []
-    for at, answer in enumerate(first):
-        if answer and told(answer[0]) == "yes":
-            found.append(Judged(goals[at][0].place, None, HOLDS))
-        else:
-            left.append(at)
-    again = [asker.ask(rules, [groups[at] for at in left], one) for rules in (worlds.all_own(it), worlds.perhaps(it))]
-    for at, *some in zip(left, *again):
-        impl, goal = goals[at]
-        said = [told(answer[0]) if answer else LATE for answer in (first[at], *some)]
-        if said[2] == "no":
-            comes = WRONG if is_whole(impl.lacks) else UNSPELLED
-        else:
-            comes = open_because(said, is_whole(impl.lacks))
-        found.append(Judged(impl.place, f"{said[0]}: {goal}, as {impl.name} states", comes))
+    said = prove(asker, worlds.spelled(it), assumed, goals, STATED_AT)
+    again = [at for at, (impl, _) in enumerate(goals) if said[at] != "yes" and is_whole(impl.lacks)]
+    some, has = [goals[at] for at in again], [assumed[at] for at in again]
+    more = [prove(asker, rules, has, some, BOUNDS_AT) for rules in (worlds.all_own(it), worlds.perhaps(it))]
+    more = dict(zip(again, zip(*more)))
+    found = []
+    for at, (impl, goal) in enumerate(goals):
+        own, any_ = more.get(at, (LATE, LATE))
+        comes = HOLDS if said[at] == "yes" else UNSPELLED
+        if at in more:
+            comes = WRONG if any_ == "no" else open_because((said[at], own, any_), True)
+        found.append(Judged(impl.place, f"{said[at]}: {goal}, as {impl.name} states", comes))
     return found
+
+
+def prove(asker, rules, assumed, goals, depth):
+    """Gives what is said of each goal, where so much is assumed."""
+    groups = [[has, f"prove {goal} at {depth}"] for has, (_, goal) in zip(assumed, goals)]
+    return [told(some[0]) if some else LATE for some in asker.ask(rules, groups, lambda group: 1)]
 
 
 def counts(seen):
