@@ -2,6 +2,7 @@
 type in common, and of each impl what its trait states holds where its own bounds do."""
 import collections
 import itertools
+import re
 import resource
 import subprocess
 import sys
@@ -66,7 +67,9 @@ class Asker:
 
 
 def told(answer):
-    return answer.split("; ")[0]
+    """Gives the verdict of an answer, without what it names beside."""
+    verdict = re.match(r"(yes|no)(?= by |: |; |$)", answer)
+    return verdict[1] if verdict else answer.split("; ")[0]
 
 
 def open_because(answers, whole):
