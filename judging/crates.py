@@ -8,7 +8,7 @@ import subprocess
 import sys
 import time
 
-from judging import asking, crate, described, headers, worlds
+from judging import asking, crate, headers, worlds
 from judging.crate import OTHER, OWN, head, is_blanket, is_whole
 from judging.library import library, put
 
@@ -103,10 +103,11 @@ def judge_pairs(it, asker):
     found, met = [], []
     for pair, answer in zip(pairs, answers):
         said = told(answer[0]) if answer else LATE
-        if said.startswith("apart"):
-            found.append(Judged(pair[0].place, None, BY_HEADER))
-        else:
+        if said.startswith("meets"):
             met.append((pair, said))
+        else:
+            comes = BY_HEADER if said.startswith("apart") else LATE
+            found.append(Judged(pair[0].place, f"{said}, of {pair[1].place}", comes))
     return found + judge_met(it, asker, met)
 
 
@@ -189,7 +190,7 @@ def met_because(goals, whole):
 
 
 def stated(it):
-    """Gives what has to hold of each impl: the impl, and a clause that its trait states, or why that isn't spelled."""
+    """Gives what has to hold of each impl: the impl, and a clause that its trait states."""
     for impl in it.impls:
         trait = it.traits.get(impl.name)
         if impl.origin != OWN or trait is None or not impl.of:
