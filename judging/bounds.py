@@ -1,6 +1,6 @@
 """Reads the bounds of an item as rustdoc describes them."""
 from judging import described
-from judging.described import Scope, Unspelled, angled
+from judging.described import Unspelled, angled
 
 
 class Bounds:
@@ -66,11 +66,3 @@ class Bounds:
         for it in trait["generics"]["where_predicates"]:
             if it.get("bound_predicate", {}).get("type") == {"generic": "Self"}:
                 self.add_predicate(it)
-
-
-def bounds_of_impl(of, impl):
-    """Gives the scope of an impl, with its parameters declared, and what it asks for."""
-    scope = Scope(of, impl["generics"]["params"])
-    bounds = Bounds(scope)
-    bounds.add_generics(impl["generics"])
-    return scope, bounds

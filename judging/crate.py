@@ -3,7 +3,7 @@ import collections
 import re
 
 from judging import described, library
-from judging.bounds import Bounds, bounds_of_impl
+from judging.bounds import Bounds
 from judging.described import Described, Scope, Unspelled
 from judging.library import WORD, param_text, put
 
@@ -47,7 +47,7 @@ class Crate:
                     self.add_trait(id, item, it)
                 elif kind == "impl" and it["trait"]:
                     self.add_impl(item, it)
-        self.impls = list({it[1:]: it for it in self.impls}.values())
+        self.impls = list({it[1:] if it.origin == OTHER else it: it for it in self.impls}.values())
         self.named = self.of.library_names()
         self.ids = {name: id for id, name in self.of.names.items()}
         self.impls += [self.renamed(it) for it in library.library().impls]
@@ -75,15 +75,17 @@ class Crate:
         if it["is_synthetic"] and it["is_negative"]:
             return
         origin = AUTO if it["is_synthetic"] else OTHER if blanket or not local else OWN
-        scope, bounds = bounds_of_impl(self.of, it)
         name = self.of.name_of(it["trait"]["id"], it["trait"]["path"])
+        scope = Scope(self.of, it["generics"]["params"])
+        bounds = Bounds(scope)
         try:
             if it["is_negative"]:
                 raise Unspelled(described.NEGATIVE)
-            of = scope.ty(blanket or it["for"])
-            trait = scope.trait(it["trait"], of)
+            scope.me = scope.ty(blanket or it["for"])
+            of, trait = scope.me, scope.trait(it["trait"], scope.me)
         except Unspelled as why:
             of, trait = None, str(why)
+        bounds.add_generics(it["generics"])
         place, asks, lacks = self.of.place(item), tuple(bounds.clauses), tuple(bounds.lacks)
         unsized = frozenset(bounds.unsized)
         self.impls.append(Impl(place, origin, tuple(scope.params), name, trait, of, asks, lacks, unsized))
