@@ -156,22 +156,31 @@ def judge_met(it, asker, met):
     all_opened = [opened(pair) for pair, _ in met]
     related = asker.ask([], [[asked] for asked, _, _ in all_opened])
     bounds = [asking.read(some[0]).bound if some else {} for some in related]
-    groups = {
-        (at, ask): [asked, f"then prove {ask} at {BOUNDS_AT}"]
+    goals = [
+        (at, asked, ask)
         for at, (asked, asks, _) in enumerate(all_opened)
         for ask in asks
         if not is_open(ask, bounds[at])
-    }
-    answers = collections.defaultdict(list)
-    for rules in (worlds.spelled(it), worlds.all_own(it), worlds.perhaps(it)):
-        for key, some in zip(groups, asker.ask(rules, list(groups.values()))):
-            answers[key].append(told(some[1]) if some else LATE)
+    ]
+    answers = said_of(it, asker, goals, BOUNDS_AT)
+    deeper = [goal for goal in goals if "maybe: depth" in answers[goal[0], goal[2]]]
+    answers |= said_of(it, asker, deeper, STATED_AT)
     found = []
     for at, ((pair, said), (_, asks, sized)) in enumerate(zip(met, all_opened)):
         goals = [answers.get((at, ask), [OPEN] * 3) for ask in asks]
         is_sized = not any(is_unsized(it, bounds[at].get(var, "")) for var in sized)
         comes = met_because(goals, all(is_whole(impl.lacks) for impl in pair)) if is_sized else BY_SIZED
         found.append(Judged(pair[0].place, f"{said}, of {pair[1].place}: {head(pair[0])}, {head(pair[1])}", comes))
+    return found
+
+
+def said_of(it, asker, goals, depth):
+    """Gives what is said of each goal by what is spelled, by all impls, and by any beside."""
+    groups = [[asked, f"then prove {ask} at {depth}"] for _, asked, ask in goals]
+    found = {(at, ask): [] for at, _, ask in goals}
+    for rules in (worlds.spelled(it), worlds.all_own(it), worlds.perhaps(it)):
+        for (at, _, ask), some in zip(goals, asker.ask(rules, groups)):
+            found[at, ask].append(told(some[1]) if some else LATE)
     return found
 
 
