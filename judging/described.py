@@ -18,6 +18,9 @@ ALIAS = "an alias of another crate"
 UNKNOWN = "parameters that are not described"
 FORM = "a form of types"
 
+# The format of descriptions that is read.
+FORMAT = 57
+
 PLAIN = set("bool char str i8 i16 i32 i64 i128 isize u8 u16 u32 u64 u128 usize f16 f32 f64 f128".split())
 # The words of the language that could be a name.
 WORDS = set(
@@ -45,6 +48,8 @@ class Described:
     def __init__(self, file):
         with open(file, encoding="utf-8") as it:
             self.doc = json.load(it)
+        if not isinstance(self.doc, dict) or self.doc.get("format_version") != FORMAT:
+            raise ValueError(f"{file} is no description of a crate in the format {FORMAT}")
         self.index, self.paths = self.doc["index"], self.doc["paths"]
         root = self.index[str(self.doc["root"])]
         self.name, self.crate = root["name"], root["crate_id"]
