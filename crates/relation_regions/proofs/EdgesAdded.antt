@@ -1,13 +1,14 @@
 -- Edges added, one after another.
 use borrow.Author.Count.{below_more}
 use Rattle.std.proofs.Common.{◌≡◌, ℕ, ◌<◌, ◌≤◌, ◌+◌, ◌-◌, List, [], ◌∷◌, ◌++◌, length, get_or, ◌∙◌, ap, refl, sym, subst, arith}
-use Rattle.std.proofs.Common.{inl, inr}
+use Rattle.std.proofs.Common.{inl, inr, Result, Ok, Err, IfOk}
 use Rattle.std.proofs.lemmas.Bool.{cases_lt}
 use Rattle.std.proofs.lemmas.List.{get_or_append_left, get_or_push}
 use Rattle.relation_regions.specs.declared.graph.Graph.{Graph}
 use Rattle.relation_regions.specs.declared.building.Pairs.{Pairs}
 use Rattle.relation_regions.specs.Graphs.{IsGraph, HasSameEdges}
-use Rattle.relation_regions.specs.Building.{Extends, HasPairs, HasStatic, AddsPairs, AddsStatic, IsBuilt}
+use Rattle.relation_regions.specs.Building.{ArePairs, Extends, HasPairs, HasStatic, AddsPairs, AddsStatic, IsBuilt}
+use Rattle.relation_regions.specs.Building.{IsBuiltAlone}
 use Rattle.relation_regions.proofs.Columns.{length_more}
 
 -- A column with one more number.
@@ -117,6 +118,22 @@ built_of nodes asked known g0 g1 g2 g3 empty nodes_are a b s =
       has_known = pairs_kept n known m (length g2.latest.items) g2 g3 has2 s.extends (omega (arith, len2));
       has_static = subst (λ u. HasStatic (n + m) u g3) size has3;
     }
+
+-- No pair.
+pub no_pair : (nodes : ℕ) (p : Pairs) → p.longer.items ≡ [] → p.shorter.items ≡ [] → ArePairs nodes p
+no_pair nodes p no_longer no_shorter =
+    let none : length p.shorter.items ≡ 0 = ap (λ (l : List ℕ). length l) no_shorter in
+    record {
+      each_longer = ap (λ (l : List ℕ). length l) no_longer ∙ sym none;
+      longer_in = λ k lt. absurd (omega (arith, lt, none));
+      shorter_in = λ k lt. absurd (omega (arith, lt, none));
+    }
+
+pub alone_of : {X : Type 0} (nodes : ℕ) (none known : Pairs) → none.shorter.items ≡ [] → (r : Result Graph X) →
+    IfOk r (IsBuilt nodes none known) → IfOk r (IsBuiltAlone nodes known)
+alone_of nodes none known empty (Ok g) h =
+    record { none = none; empty = ap (λ (l : List ℕ). length l) empty; built = h }
+alone_of nodes none known empty (Err x) h = tt
 
 -- Two graphs that are built of the same pairs.
 module _ (nodes : ℕ) (asked known : Pairs) (g h : Graph) (built : IsBuilt nodes asked known g)

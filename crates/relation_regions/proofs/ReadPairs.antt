@@ -1,7 +1,7 @@
 -- What pairs say, as constraints are read one after another.
 use borrow.Author.Count.{below_more}
 use Rattle.std.proofs.Common.{◌≡◌, ℕ, ◌<◌, ◌+◌, List, [], ◌∷◌, ◌++◌, length, get_or, sym, ◌∙◌, ap, refl, subst, arith}
-use Rattle.std.proofs.Common.{inl, inr, map, Result, Ok, Err, OnOk}
+use Rattle.std.proofs.Common.{inl, inr, map}
 use Rattle.std.specs.List.{Contains}
 use Rattle.std.proofs.lemmas.List.{get_or_append_left, get_or_push, get_or_default, length-map}
 use Rattle.std.proofs.lemmas.List.Elements.{Contains-append_cases}
@@ -251,7 +251,7 @@ module _ (facts : List (Tree × Tree)) (st : Store) (t0 t1 t2 t3 : List Tree) (e
     | inr of ↦ of_fact t of
   ]
 
-  are_problem : (standings : List Standing) (asked : Pairs) (said : List ℕ) (known : Pairs) (numbers : List ℕ) →
+  pub are_problem : (standings : List Standing) (asked : Pairs) (said : List ℕ) (known : Pairs) (numbers : List ℕ) →
       AreNumbered st t3 standings → HaveRead st.constraints (length st.constraints) t2 asked said →
       HaveRead (map stating facts) (length (map stating facts)) t3 known numbers →
       IsProblem facts st t3 standings asked said known
@@ -262,15 +262,3 @@ module _ (facts : List (Tree × Tree)) (st : Store) (t0 t1 t2 t3 : List Tree) (e
     read = read_kept st.constraints (length st.constraints) asked said third read;
     stated = (numbers, subst (λ b. HaveRead (map stating facts) b t3 known numbers) (length-map facts stating) stated);
   }
-
--- The same where reading facts comes last.
-pub read_problem : {F : Type 0} (r : Result (Unit {0}) F) (facts : List (Tree × Tree)) (st : Store)
-    (t0 t1 t2 t3 : List Tree) (n : ℕ) (standings : List Standing) (asked : Pairs) (said : List ℕ) (known : Pairs)
-    (numbers : List ℕ) → t0 ≡ [] → GrowsBy (λ t. t ≡ static) t0 t1 → IsAt t1 n static →
-    GrowsBy (IsOfOne st.constraints) t1 t2 → HaveRead st.constraints (length st.constraints) t2 asked said →
-    OnOk r (AreNumbered st t3 standings) → OnOk r (GrowsBy (IsOfOne (map stating facts)) t2 t3) →
-    OnOk r (HaveRead (map stating facts) (length (map stating facts)) t3 known numbers) →
-    OnOk r (IsProblem facts st t3 standings asked said known)
-read_problem (Ok u) facts st t0 t1 t2 t3 n standings asked said known numbers e first at second read h third stated =
-    are_problem facts st t0 t1 t2 t3 e first n at second third standings asked said known numbers h read stated
-read_problem (Err f) facts st t0 t1 t2 t3 n standings asked said known numbers e first at second read h third stated = tt

@@ -1,17 +1,18 @@
 -- Reasons noted, and edges added for them, one after another.
 use borrow.Author.Count.{below_more}
 use Rattle.std.proofs.Common.{◌≡◌, ℕ, ◌<◌, ◌≤◌, ◌+◌, List, [], ◌∷◌, ◌++◌, length, get_or, sym, ◌∙◌, ap, refl, subst, arith}
-use Rattle.std.proofs.Common.{Option, Some, None, IsSome, is_some, true, false, Bool, inl, inr}
+use Rattle.std.proofs.Common.{Option, Some, None, IsSome, is_some, true, false, Bool, inl, inr, replicate}
 use Rattle.std.proofs.Math.ListN.{set}
-use Rattle.std.proofs.lemmas.Bool.{cases_eq}
+use Rattle.std.proofs.lemmas.Bool.{cases_eq, cases_lt}
 use Rattle.std.proofs.lemmas.List.{get_or_append_left, get_or_push, get_or-set_same, get_or-set_other, length-set}
-use Rattle.std.proofs.lemmas.List.{get_or_default}
+use Rattle.std.proofs.lemmas.List.{get_or_default, get_or-replicate, get_or_past, length-replicate}
 use Rattle.relation_regions.specs.declared.graph.Graph.{Graph}
 use Rattle.relation_regions.specs.declared.search.Search.{Search}
 use Rattle.relation_regions.specs.declared.standing.Standing.{Standing}
+use Rattle.relation_regions.specs.declared.standing.Standing.TheVariants.{Named, Placeholder, Variable}
 use Rattle.relation_regions.specs.Graphs.{IsGraph, Reaches, HasSameEdges}
 use Rattle.relation_regions.specs.Searches.{IsSearch, IsFound, FindsAll}
-use Rattle.relation_regions.specs.Standings.{IsBeyond}
+use Rattle.relation_regions.specs.Standings.{is_beyond, is_placeholder, standing_of, IsBeyond}
 use Rattle.relation_regions.specs.Widening.{AreReasons, HaveReasons, IsNoted, IsWidened}
 use Rattle.relation_regions.proofs.Columns.{length_more}
 use Rattle.relation_regions.proofs.Found.{placed_kept}
@@ -21,6 +22,53 @@ use Rattle.relation_regions.proofs.Paths.{found_reaches}
 pub some_as_read : (xs : List (Option ℕ)) (x : ℕ) (r : Option ℕ) (b : Bool) → x < length xs → r ≡ get_or xs x r →
     is_some r ≡ b → is_some (get_or xs x None) ≡ b
 some_as_read xs x r b lt read is = ap is_some (get_or_default xs x None r lt ∙ sym read) ∙ is
+
+-- Nothing has a reason.
+abbrev none : ℕ → List (Option ℕ)
+none n = replicate n None
+
+size : (n : ℕ) → length (none n) ≡ n
+size n = length-replicate n None
+
+none_reason : (n a : ℕ) → get_or (none n) a None ≡ None
+none_reason n a = elim (cases_lt a n) [
+  | inl lt ↦ get_or-replicate n a None None lt
+  | inr le ↦ get_or_past (none n) a None (omega (arith, size n, le))
+]
+
+pub no_reasons : (g : Graph) (standings : List Standing) (reasons : List (Option ℕ)) →
+    reasons ≡ replicate (length standings) None → AreReasons g standings reasons × HaveReasons g standings 0 reasons
+no_reasons g standings reasons is =
+    let nowhere : (a p : ℕ) → get_or reasons a None ≡ Some p → ⊥ = λ a p e.
+    let f : get_or reasons a None ≡ None = ap (λ l. get_or l a None) is ∙ none_reason (length standings) a in
+    absurd (cc (e, f)) in (
+      record {
+        one_each = ap (λ (l : List (Option ℕ)). length l) is ∙ size (length standings);
+        in_graph = λ a p e. absurd (nowhere a p e);
+        beyond = λ a p e. absurd (nowhere a p e);
+        reaches = λ a p e. absurd (nowhere a p e);
+      },
+      λ a p lt. absurd (omega (arith, lt)),
+    )
+
+-- Only a placeholder is beyond another region.
+beyond_placeholder : (s p : Standing) → is_beyond s p ≡ true → is_placeholder p ≡ true
+beyond_placeholder Named Named e = absurd cc
+beyond_placeholder (Placeholder u) Named e = absurd cc
+beyond_placeholder (Variable u) Named e = absurd cc
+beyond_placeholder s (Placeholder v) e = refl
+beyond_placeholder Named (Variable v) e = absurd cc
+beyond_placeholder (Placeholder u) (Variable v) e = absurd cc
+beyond_placeholder (Variable u) (Variable v) e = absurd cc
+
+pub target_passed : (g : Graph) (standings : List Standing) (target : ℕ) (reasons : List (Option ℕ)) →
+    HaveReasons g standings target reasons → is_placeholder (standing_of standings target) ≡ false →
+    HaveReasons g standings (target + 1) reasons
+target_passed g standings target reasons h other a p lt beyond r =
+    below_more (λ p. IsBeyond standings a p → Reaches g a p → IsSome (get_or reasons a None)) target
+    (λ p q b r. h a p q b r)
+    (λ b r. absurd (cc (beyond_placeholder (standing_of standings a) (standing_of standings target) b, other)))
+    p lt beyond r
 
 -- A reason is put for one more.
 reasons_more : (g : Graph) (standings : List Standing) (reasons : List (Option ℕ)) (node target : ℕ) →

@@ -46,3 +46,9 @@ pub record IsBuilt (nodes : ℕ) (asked known : Pairs) (g : Graph) : Type 0 wher
   pub has_asked : HasPairs 0 asked (length asked.shorter.items) g
   pub has_known : HasPairs (length asked.shorter.items) known (length known.shorter.items) g
   pub has_static : HasStatic (length asked.shorter.items + length known.shorter.items) nodes g
+
+-- The edges of a graph are those that are known, and those from the node 0.
+pub record IsBuiltAlone (nodes : ℕ) (known : Pairs) (g : Graph) : Type 0 where
+  pub none : Pairs
+  pub empty : length none.shorter.items ≡ 0
+  pub built : IsBuilt nodes none known g

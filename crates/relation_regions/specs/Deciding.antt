@@ -5,7 +5,7 @@ use Rattle.relation_regions.specs.declared.search.Search.{Search}
 use Rattle.relation_regions.specs.declared.standing.Standing.{Standing}
 use Rattle.relation_regions.specs.declared.decide.Decision.{Decision}
 use Rattle.relation_regions.specs.declared.decide.Decision.TheVariants.{Met, Unmet}
-use Rattle.relation_regions.specs.Graphs.{IsGraph, Reaches}
+use Rattle.relation_regions.specs.Graphs.{IsGraph, IsPath, Reaches}
 use Rattle.relation_regions.specs.Searches.{IsFound}
 use Rattle.relation_regions.specs.Standings.{is_given, standing_of, IsForced, Any, Among}
 
@@ -17,6 +17,12 @@ pub record Adds (asked : ℕ) (old new : List ℕ) : Type 0 where
 -- Each of the first edges of a path that is asked for is one of a list.
 abbrev pub HasAsked : ℕ → List ℕ → ℕ → List ℕ → Type 0
 HasAsked asked path bound by = (k : ℕ) → k < bound → get_or path k 0 < asked → Contains by (get_or path k 0)
+
+-- Some path leads from a node to another, and a list has those of its edges that are asked for.
+pub record HasAskedPath (g : Graph) (asked a b : ℕ) (by : List ℕ) : Type 0 where
+  pub path : List ℕ
+  pub leads : IsPath g.from.items g.to.items path a b
+  pub has : HasAsked asked path (length path) by
 
 -- What an edge of the widened graph says is forced.
 abbrev pub EdgeIsForced : Graph → Graph → ℕ → List Standing → (ℕ → Type 0) → ℕ → Type 0
@@ -56,6 +62,37 @@ pub record AreValues (w : Graph) (standings : List Standing) (bound : ℕ) (valu
   pub each : (a b : ℕ) → b < bound → IsGiven standings b → IsVariable standings a → Reaches w a b →
       Contains values (a, b)
   pub only : (a b : ℕ) → Contains values (a, b) → IsVariable standings a × IsGiven standings b × Reaches w a b
+
+-- Each given node that was found was known to reach the target.
+abbrev pub KnowsFound : Graph → List Standing → Search → ℕ → Type 0
+KnowsFound known standings found target = (a : ℕ) → IsGiven standings a → IsFound found a → Reaches known a target
+
+-- A given node was found that wasn't.
+pub record IsFoundAgainst (known : Graph) (standings : List Standing) (found : Search) (target a : ℕ) : Type 0 where
+  pub given : IsGiven standings a
+  pub reaches : IsFound found a
+  pub unknown : Reaches known a target → ⊥
+
+-- One more target: the given nodes that reach it were known to, and pairs with it were added, just of the variables that
+-- reach it; none where it is a variable itself.
+pub record IsPassed (known w : Graph) (standings : List Standing) (target : ℕ) (old new : List (ℕ × ℕ)) : Type 0 where
+  pub known_to : (a : ℕ) → IsGiven standings target → IsGiven standings a → Reaches w a target → Reaches known a target
+  pub kept : (p : ℕ × ℕ) → Contains old p → Contains new p
+  pub each : (a : ℕ) → IsGiven standings target → IsVariable standings a → Reaches w a target → Contains new (a, target)
+  pub only : (a b : ℕ) → Contains new (a, b) → Contains old (a, b) ⊎
+      ((b ≡ target) × IsGiven standings target × IsVariable standings a × Reaches w a target)
+
+-- A given node reaches another one, though that isn't known.
+pub record IsAgainst (known w : Graph) (standings : List Standing) (target a : ℕ) : Type 0 where
+  pub longer_given : IsGiven standings a
+  pub shorter_given : IsGiven standings target
+  pub reaches : Reaches w a target
+  pub unknown : Reaches known a target → ⊥
+
+-- What is known of the targets below one.
+pub record IsDecidedTo (known w : Graph) (standings : List Standing) (target : ℕ) (values : List (ℕ × ℕ)) : Type 0 where
+  pub known_to : (a b : ℕ) → b < target → IsGiven standings a → IsGiven standings b → Reaches w a b → Reaches known a b
+  pub values_to : AreValues w standings target values
 
 -- What is forced, by all that is asked.
 abbrev pub Forced : Graph → ℕ → List Standing → ℕ → ℕ → Type 0

@@ -1,7 +1,7 @@
 //! Graphs built of pairs of nodes.
 ghost use Rattle.std.specs.Prelude.{◌≡◌, [], length, IfOk, OnOk};
 ghost use Rattle.relation_regions.specs.Graphs.{IsGraph};
-ghost use Rattle.relation_regions.specs.Building.{ArePairs, AddsPairs, AddsStatic, IsBuilt};
+ghost use Rattle.relation_regions.specs.Building.{ArePairs, AddsPairs, AddsStatic, IsBuilt, IsBuiltAlone};
 
 use crate::graph::Graph;
 use std::alloc::Global;
@@ -50,6 +50,19 @@ fn add_static(graph: &mut Graph) -> Result<(), OutOfMemory>
     Ok(())
 }
 
+// An edge for each pair that is asked for, for each that is known, and from the node 0 to each.
+fn add_all(graph: &mut Graph, asked: &Pairs, known: &Pairs) -> Result<(), OutOfMemory>
+    requires graph { IsGraph graph.old }
+    requires empty { graph.old.to.items ≡ [] }
+    requires asked { ArePairs (length graph.old.latest.items) asked.now }
+    requires known { ArePairs (length graph.old.latest.items) known.now }
+    ensures { OnOk result (IsBuilt (length graph.old.latest.items) asked.now known.now graph.new) }
+{
+    add_pairs(graph, asked)?;
+    add_pairs(graph, known)?;
+    add_static(graph)
+}
+
 /// A graph of so many nodes: an edge for each pair that is asked for, then one for each that is known, then one from the
 /// node 0 to each.
 pub(crate) fn built(
@@ -63,8 +76,15 @@ pub(crate) fn built(
     ensures { IfOk result (IsBuilt nodes asked.now known.now) }
 {
     let mut graph = Graph::new(alloc, nodes)?;
-    add_pairs(&mut graph, asked)?;
-    add_pairs(&mut graph, known)?;
-    add_static(&mut graph)?;
+    add_all(&mut graph, asked, known)?;
     Ok(graph)
+}
+
+/// The same, where no pair is asked for.
+pub(crate) fn built_alone(alloc: Global, nodes: usize, known: &Pairs) -> Result<Graph, OutOfMemory>
+    requires { ArePairs nodes known.now }
+    ensures { IfOk result (IsBuiltAlone nodes known.now) }
+{
+    let none = Pairs::new(alloc);
+    built(alloc, nodes, &none, known)
 }

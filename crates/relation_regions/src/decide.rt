@@ -1,10 +1,14 @@
 //! Which given nodes have to outlive which, by edges that are asked for, and whether that was known.
-ghost use Rattle.std.specs.Prelude.{◌≡◌, ◌≤◌, length, IfOk, OnOk, MatchOption};
-ghost use Rattle.relation_regions.specs.Graphs.{IsGraph, HasSameEdges};
+ghost use Rattle.std.specs.Prelude.{◌≡◌, ◌<◌, ◌≤◌, [], length, All, IfOk, OnOk, MatchOption};
+ghost use Rattle.relation_regions.specs.Graphs.{IsGraph, Reaches, HasSameEdges};
+ghost use Rattle.relation_regions.specs.Standings.{IsForced, Among};
+ghost use Rattle.relation_regions.specs.Widening.{AreReasons, IsWidened};
 ghost use Rattle.relation_regions.specs.Deciding.{IsUnknown, AllKnown, AreValuesTo, IsDecision};
+ghost use Rattle.relation_regions.specs.Deciding.{KnowsFound, IsFoundAgainst, IsPassed, IsAgainst};
+ghost use Rattle.relation_regions.specs.Deciding.{IsDecidedTo};
 
 use crate::graph::Graph;
-use crate::search::{Search, reaching};
+use crate::search::{Search, path_to, reaching};
 use crate::standing::Standing;
 use crate::unsatisfiable::causes_of;
 use crate::widening::{reasons_of, widen};
@@ -62,20 +66,154 @@ fn add_values(
     Ok(())
 }
 
+// A given node that reaches a target, though that isn't known, of those that were found.
+fn find_against(
+    alloc: Global,
+    known: &Graph,
+    standings: &[Standing],
+    found: &Search,
+    target: usize,
+) -> Result<Option<usize>, OutOfMemory>
+    requires known { IsGraph known.now }
+    requires known_nodes { length known.now.latest.items ≡ length standings.now }
+    requires found { length found.now.places.items ≡ length standings.now }
+    requires target { target < length standings.now }
+    ensures { IfOk result (λ against. MatchOption against
+        (KnowsFound known.now standings.now found.now target)
+        (IsFoundAgainst known.now standings.now found.now target)) }
+{
+    let stated = reaching(alloc, known, target)?;
+    Ok(find_unknown(standings, found, &stated))
+}
+
+// The same. Where there is none, each variable that was found is added.
+fn decide_found(
+    alloc: Global,
+    known: &Graph,
+    standings: &[Standing],
+    found: &Search,
+    target: usize,
+    values: &mut Vec<(usize, usize)>,
+) -> Result<Option<usize>, OutOfMemory>
+    requires known { IsGraph known.now }
+    requires known_nodes { length known.now.latest.items ≡ length standings.now }
+    requires found { length found.now.places.items ≡ length standings.now }
+    requires target { target < length standings.now }
+    ensures { let n = length standings.now in IfOk result (λ against. MatchOption against
+        (KnowsFound known.now standings.now found.now target ×
+        AreValuesTo standings.now found.now target values.old.items values.new.items n)
+        (IsFoundAgainst known.now standings.now found.now target)) }
+{
+    let against = find_against(alloc, known, standings, found, target)?;
+    if against.is_none() {
+        add_values(standings, found, target, values)?;
+    }
+    Ok(against)
+}
+
+// The same of a target, if it is given, of all that reach it.
+fn decide_target(
+    alloc: Global,
+    known: &Graph,
+    wide: &Graph,
+    standings: &[Standing],
+    target: usize,
+    values: &mut Vec<(usize, usize)>,
+) -> Result<Option<usize>, OutOfMemory>
+    requires known { IsGraph known.now }
+    requires wide { IsGraph wide.now }
+    requires known_nodes { length known.now.latest.items ≡ length standings.now }
+    requires nodes { length wide.now.latest.items ≡ length standings.now }
+    requires target { target < length standings.now }
+    ensures { IfOk result (λ against. MatchOption against
+        (IsPassed known.now wide.now standings.now target values.old.items values.new.items)
+        (IsAgainst known.now wide.now standings.now target)) }
+{
+    if !standings[target].is_given() {
+        return Ok(None);
+    }
+    let found = reaching(alloc, wide, target)?;
+    decide_found(alloc, known, standings, &found, target, values)
+}
+
+// Two given nodes of which the first reaches the second, though that isn't known. Where there are none, each variable is
+// added with what it reaches.
+fn decide_targets(
+    alloc: Global,
+    known: &Graph,
+    wide: &Graph,
+    standings: &[Standing],
+    values: &mut Vec<(usize, usize)>,
+) -> Result<Option<(usize, usize)>, OutOfMemory>
+    requires known { IsGraph known.now }
+    requires wide { IsGraph wide.now }
+    requires known_nodes { length known.now.latest.items ≡ length standings.now }
+    requires nodes { length wide.now.latest.items ≡ length standings.now }
+    requires none { values.old.items ≡ [] }
+    ensures { IfOk result (λ against. MatchOption against
+        (IsDecidedTo known.now wide.now standings.now (length standings.now) values.new.items)
+        (λ pair. IsAgainst known.now wide.now standings.now pair.1 pair.0)) }
+{
+    for target in 0..standings.len() {
+        let against = decide_target(alloc, known, wide, standings, target, values)?;
+        if let Some(longer) = against {
+            return Ok(Some((longer, target)));
+        }
+    }
+    Ok(None)
+}
+
+// Why one node reaches another in the widened graph.
+fn explain(
+    alloc: Global,
+    graph: &Graph,
+    wide: &Graph,
+    standings: &[Standing],
+    reasons: &[Option<usize>],
+    asked: usize,
+    longer: usize,
+    shorter: usize,
+) -> Result<Vec<usize>, OutOfMemory>
+    requires graph { IsGraph graph.now }
+    requires nodes { length graph.now.latest.items ≡ length standings.now }
+    requires reasons { AreReasons graph.now standings.now reasons.now }
+    requires wide { IsWidened graph.now reasons.now (length reasons.now) wide.now }
+    requires asked { asked ≤ length graph.now.to.items }
+    requires longer { longer < length standings.now }
+    requires shorter { shorter < length standings.now }
+    requires reaches { Reaches wide.now longer shorter }
+    ensures asked_for { IfOk result (λ by. All (λ i. i < asked) by.items) }
+    ensures forced { IfOk result (λ by.
+        IsForced graph.now.from.items graph.now.to.items asked standings.now (Among by.items) longer shorter) }
+{
+    let path = path_to(alloc, wide, shorter, longer)?;
+    causes_of(
+        alloc,
+        graph,
+        wide,
+        standings,
+        reasons,
+        asked,
+        longer,
+        shorter,
+        path.as_slice(),
+    )
+}
+
 /// Decides what is asked by a graph's first edges, `asked` in number, the others of which are those of what is known.
-/// A copy of the graph is handed in, to be widened. It takes time linear in edges times given nodes.
+/// A copy of the graph is handed in, and widened. It takes time linear in edges times given nodes.
 pub(crate) fn decide(
     alloc: Global,
     known: &Graph,
     graph: &Graph,
-    copy: Graph,
+    wide: &mut Graph,
     asked: usize,
     standings: &[Standing],
 ) -> Result<Decision, OutOfMemory>
     requires known { IsGraph known.now }
     requires graph { IsGraph graph.now }
-    requires copy { IsGraph copy }
-    requires same { HasSameEdges graph.now copy }
+    requires copy { IsGraph wide.old }
+    requires same { HasSameEdges graph.now wide.old }
     requires known_nodes { length known.now.latest.items ≡ length standings.now }
     requires nodes { length graph.now.latest.items ≡ length standings.now }
     requires asked { asked ≤ length graph.now.to.items }
@@ -83,36 +221,18 @@ pub(crate) fn decide(
 {
     let reasons = reasons_of(alloc, graph, standings)?;
     let why = reasons.as_slice();
-    let mut wide = copy;
-    widen(&mut wide, why)?;
+    widen(wide, why)?;
     let mut values = Vec::new(alloc);
-    for target in 0..standings.len() {
-        if standings[target].is_given() {
-            let found = reaching(alloc, &wide, target)?;
-            let stated = reaching(alloc, known, target)?;
-            match find_unknown(standings, &found, &stated) {
-                None => add_values(standings, &found, target, &mut values)?,
-                Some(longer) => {
-                    let path = found.path(alloc, &wide, target, longer)?;
-                    let by = causes_of(
-                        alloc,
-                        graph,
-                        &wide,
-                        standings,
-                        why,
-                        asked,
-                        longer,
-                        target,
-                        path.as_slice(),
-                    )?;
-                    return Ok(Decision::Unmet {
-                        longer,
-                        shorter: target,
-                        by,
-                    });
-                }
-            }
+    let against = decide_targets(alloc, known, &*wide, standings, &mut values)?;
+    match against {
+        None => Ok(Decision::Met(values)),
+        Some((longer, shorter)) => {
+            let by = explain(alloc, graph, &*wide, standings, why, asked, longer, shorter)?;
+            Ok(Decision::Unmet {
+                longer,
+                shorter,
+                by,
+            })
         }
     }
-    Ok(Decision::Met(values))
 }

@@ -1,13 +1,14 @@
 //! Solving: can numbered regions be as constraints ask? What a number means, and which constraints make which pairs, is
 //! the caller's.
 ghost use Rattle.std.specs.Prelude.{length, IfOk};
-ghost use Rattle.relation_regions.specs.Building.{ArePairs};
+ghost use Rattle.relation_regions.specs.Building.{ArePairs, IsBuiltAlone};
 ghost use Rattle.relation_regions.specs.Demands.{IfMet, IfUnmet};
 
 pub use crate::building::Pairs;
-use crate::building::built;
+use crate::building::{built, built_alone};
 pub use crate::decide::Decision;
 use crate::decide::decide;
+use crate::graph::Graph;
 pub use crate::standing::Standing;
 use std::alloc::Global;
 use term_enums::OutOfMemory;
@@ -37,9 +38,32 @@ pub fn solve(
     ensures met { IfOk result (IfMet standings.now asked.now known.now) }
     ensures unmet { IfOk result (IfUnmet standings.now asked.now known.now) }
 {
-    let none = Pairs::new(alloc);
-    let alone = built(alloc, standings.len(), &none, known)?;
+    let alone = built_alone(alloc, standings.len(), known)?;
+    solve_beside(alloc, standings, asked, known, &alone)
+}
+
+// The same, by the graph of what is known alone.
+fn solve_beside(
+    alloc: Global,
+    standings: &[Standing],
+    asked: &Pairs,
+    known: &Pairs,
+    alone: &Graph,
+) -> Result<Decision, OutOfMemory>
+    requires asked { ArePairs (length standings.now) asked.now }
+    requires known { ArePairs (length standings.now) known.now }
+    requires alone { IsBuiltAlone (length standings.now) known.now alone.now }
+    ensures met { IfOk result (IfMet standings.now asked.now known.now) }
+    ensures unmet { IfOk result (IfUnmet standings.now asked.now known.now) }
+{
     let graph = built(alloc, standings.len(), asked, known)?;
-    let copy = built(alloc, standings.len(), asked, known)?;
-    decide(alloc, &alone, &graph, copy, asked.shorter.len(), standings)
+    let mut wide = built(alloc, standings.len(), asked, known)?;
+    decide(
+        alloc,
+        alone,
+        &graph,
+        &mut wide,
+        asked.shorter.len(),
+        standings,
+    )
 }

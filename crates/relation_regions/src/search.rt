@@ -1,6 +1,6 @@
 //! From which nodes of a graph one of them is reached, and by what path.
 ghost use Rattle.std.specs.Prelude.{◌≡◌, ℕ, ◌<◌, ◌≤◌, length, get_or, OnOk, IfOk};
-ghost use Rattle.relation_regions.specs.Graphs.{IsGraph, IsPath};
+ghost use Rattle.relation_regions.specs.Graphs.{IsGraph, IsPath, Reaches};
 ghost use Rattle.relation_regions.specs.Searches.{IsSearch, Keeps, IsFound, HasPredecessors, FindsAll};
 
 use crate::graph::Graph;
@@ -31,11 +31,15 @@ impl Search {
     {
         let mut places = vec![in alloc; None; graph.latest.len()]?;
         places[target] = Some(0);
+        let mut nodes = Vec::new(alloc);
+        let mut edges = Vec::new(alloc);
+        let mut onward = Vec::new(alloc);
+        push_row(&mut nodes, &mut edges, &mut onward, target, 0, 0)?;
         Ok(Search {
             places,
-            nodes: vec![in alloc; target]?,
-            edges: vec![in alloc; 0]?,
-            onward: vec![in alloc; 0]?,
+            nodes,
+            edges,
+            onward,
         })
     }
 
@@ -94,8 +98,8 @@ impl Search {
         Ok(())
     }
 
-    /// Edges that lead, one after another, from a found node to the target.
-    pub(crate) fn path(
+    // Edges that lead, one after another, from a found node to the target.
+    fn path(
         &self,
         alloc: Global,
         graph: &Graph,
@@ -131,4 +135,21 @@ pub(crate) fn reaching(alloc: Global, graph: &Graph, target: usize) -> Result<Se
         done += 1;
     }
     Ok(found)
+}
+
+/// Edges that lead, one after another, from a node to one that it reaches.
+pub(crate) fn path_to(
+    alloc: Global,
+    graph: &Graph,
+    target: usize,
+    node: usize,
+) -> Result<Vec<usize>, OutOfMemory>
+    requires graph { IsGraph graph.now }
+    requires target { target < length graph.now.latest.items }
+    requires node { node < length graph.now.latest.items }
+    requires reaches { Reaches graph.now node target }
+    ensures { IfOk result (λ path. IsPath graph.now.from.items graph.now.to.items path.items node target) }
+{
+    let found = reaching(alloc, graph, target)?;
+    found.path(alloc, graph, target, node)
 }

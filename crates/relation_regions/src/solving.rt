@@ -1,11 +1,11 @@
 //! Solving: can the regions of a context be as it has recorded?
-ghost use Rattle.std.specs.Prelude.{◌≡◌, ◌<◌, [], All, length, get_or, map, IfOk, OnOk};
+ghost use Rattle.std.specs.Prelude.{◌≡◌, ◌<◌, [], All, length, get_or, map, IfOk};
 ghost use Rattle.relation_semantics.specs.Constraints.{constraint_of};
 ghost use Rattle.relation_semantics.specs.ContextCalls.{Grows, KeepsMarks};
 ghost use Rattle.relation_regions.specs.Worlds.{static};
-ghost use Rattle.relation_regions.specs.Reading.{trees_of, AreNone, IsProblem};
+ghost use Rattle.relation_regions.specs.Reading.{AreNone};
 ghost use Rattle.relation_regions.specs.Numbered.{AreWithin, IsAnswer};
-ghost use Rattle.relation_regions.specs.Solving.{IsFactIn, IfMet, IfValued, IfUnmet, region_pairs};
+ghost use Rattle.relation_regions.specs.Solving.{IsFactIn, IfMet, IfValued, IfUnmet};
 
 use crate::building::Pairs;
 use crate::numbered::{self, Decision};
@@ -69,32 +69,6 @@ impl<X: Copy + Eq + Hash> Problem<X> {
     }
 }
 
-// The constraints of a context, and facts, are read. The region 'static gets the number 0.
-fn read<C: InferCtxtLike>(
-    ctx: &C,
-    problem: &mut Problem<<C::Interner as Keys>::Key>,
-    re_static: Region<C::Interner>,
-    constraints: &[RegionConstraint<<C::Interner as Keys>::Key>],
-    facts: &[RegionOutlivesPredicate<<C::Interner as Keys>::Key>],
-) -> Result<(), OutOfMemory>
-    requires lawful { (C.state ctx.now).lawful }
-    requires is_static { ((C.state ctx.now).meaning).region re_static ≡ static }
-    requires constraints { let c = C.state ctx.now in
-        map (constraint_of c.meaning) constraints.now ≡ (c.store).constraints }
-    requires facts_in { All (IsFactIn (C.state ctx.now)) facts.now }
-    requires table { problem.old.regions.table ≡ [] }
-    requires standings { problem.old.regions.standings.items ≡ [] }
-    requires asked { AreNone problem.old.asked.pairs problem.old.asked.asked_by.items }
-    requires known { AreNone problem.old.known.pairs problem.old.known.asked_by.items }
-    ensures { let c = C.state ctx.now in let p = problem.new in
-        OnOk result (IsProblem (region_pairs c.meaning facts.now) c.store (trees_of c p.regions.table)
-        p.regions.standings.items p.asked.pairs p.asked.asked_by.items p.known.pairs) }
-{
-    number(ctx, &mut problem.regions, re_static)?;
-    read_constraints(ctx, &mut problem.regions, &mut problem.asked, constraints)?;
-    read_facts(ctx, &mut problem.regions, &mut problem.known, facts)
-}
-
 // What asks for the pairs at these places.
 fn asked_by(
     alloc: Global,
@@ -147,6 +121,33 @@ fn answer<X: Copy + Eq + Hash>(
     }
 }
 
+// The constraints of a context, and facts, are read, and solved. The region 'static gets the number 0.
+fn solve_problem<C: InferCtxtLike>(
+    ctx: &C,
+    problem: &mut Problem<<C::Interner as Keys>::Key>,
+    re_static: Region<C::Interner>,
+    constraints: &[RegionConstraint<<C::Interner as Keys>::Key>],
+    facts: &[RegionOutlivesPredicate<<C::Interner as Keys>::Key>],
+) -> Result<Solved<<C::Interner as Keys>::Key>, OutOfMemory>
+    requires lawful { (C.state ctx.now).lawful }
+    requires is_static { ((C.state ctx.now).meaning).region re_static ≡ static }
+    requires constraints { let c = C.state ctx.now in
+        map (constraint_of c.meaning) constraints.now ≡ (c.store).constraints }
+    requires facts_in { All (IsFactIn (C.state ctx.now)) facts.now }
+    requires table { problem.old.regions.table ≡ [] }
+    requires standings { problem.old.regions.standings.items ≡ [] }
+    requires asked { AreNone problem.old.asked.pairs problem.old.asked.asked_by.items }
+    requires known { AreNone problem.old.known.pairs problem.old.known.asked_by.items }
+    ensures met { IfOk result (IfMet (C.state ctx.now) facts.now) }
+    ensures least { IfOk result (IfValued (C.state ctx.now) facts.now) }
+    ensures unmet { IfOk result (IfUnmet (C.state ctx.now) facts.now) }
+{
+    number(ctx, &mut problem.regions, re_static)?;
+    read_constraints(ctx, &mut problem.regions, &mut problem.asked, constraints)?;
+    read_facts(ctx, &mut problem.regions, &mut problem.known, facts)?;
+    answer(ctx.cx().alloc(), &*problem)
+}
+
 // The region 'static. Nothing is recorded.
 fn make_static<C: InferCtxtLike>(ctx: &mut C) -> Result<Region<C::Interner>, OutOfMemory>
     requires { (C.state ctx.old).lawful }
@@ -189,14 +190,12 @@ pub fn solve<C: RecordedRegions>(
     ensures unmet { IfOk result (IfUnmet (C.state ctx.new) facts.now) }
 {
     let re_static = make_static(ctx)?;
-    let alloc = ctx.cx().alloc();
-    let mut problem = Problem::new(alloc);
-    read(
+    let mut problem = Problem::new(ctx.cx().alloc());
+    solve_problem(
         &*ctx,
         &mut problem,
         re_static,
         ctx.region_constraints(),
         facts,
-    )?;
-    answer(alloc, &problem)
+    )
 }

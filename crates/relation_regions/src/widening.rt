@@ -34,6 +34,30 @@ fn note_reasons(
     }
 }
 
+// The same, where the target is a placeholder. Of another one nothing is noted.
+fn note_target(
+    alloc: Global,
+    graph: &Graph,
+    standings: &[Standing],
+    target: usize,
+    reasons: &mut Vec<Option<usize>>,
+) -> Result<(), OutOfMemory>
+    requires graph { IsGraph graph.now }
+    requires nodes { length graph.now.latest.items ≡ length standings.now }
+    requires target { target < length standings.now }
+    requires reasons { AreReasons graph.now standings.now reasons.old.items }
+    requires earlier { HaveReasons graph.now standings.now target reasons.old.items }
+    ensures reasons { OnOk result (AreReasons graph.now standings.now reasons.new.items) }
+    ensures noted { OnOk result (HaveReasons graph.now standings.now (target + 1) reasons.new.items) }
+{
+    if !standings[target].is_placeholder() {
+        return Ok(());
+    }
+    let found = reaching(alloc, graph, target)?;
+    note_reasons(graph, &found, standings, target, reasons);
+    Ok(())
+}
+
 /// Of each variable that reaches a placeholder that it can't name such a one.
 pub(crate) fn reasons_of(
     alloc: Global,
@@ -47,10 +71,7 @@ pub(crate) fn reasons_of(
 {
     let mut reasons = vec![in alloc; None; standings.len()]?;
     for target in 0..standings.len() {
-        if standings[target].is_placeholder() {
-            let found = reaching(alloc, graph, target)?;
-            note_reasons(graph, &found, standings, target, &mut reasons);
-        }
+        note_target(alloc, graph, standings, target, &mut reasons)?;
     }
     Ok(reasons)
 }

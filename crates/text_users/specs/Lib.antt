@@ -3,3 +3,4 @@ pub mod Asked
 pub mod Found
 pub mod Facts
 pub mod Solved
+pub mod Rows

@@ -1,5 +1,5 @@
 -- What an answer names is known.
-use Rattle.std.specs.Prelude.{IsTrue, All}
+use Rattle.std.specs.Prelude.{Bool, IsTrue, All}
 use Rattle.relation_terms.specs.declared.predicate.regions.OutlivesPredicate.{OutlivesPredicate}
 use Rattle.relation_terms.specs.declared.terms.keys.RegionKey.{RegionKey}
 use Rattle.relation_terms.specs.Trees.{known}
@@ -7,11 +7,16 @@ use Rattle.relation_terms.specs.Meaning.{Meaning}
 use Rattle.relation_regions.specs.declared.solving.Solved.{Solved}
 use Rattle.relation_regions.specs.declared.solving.Solved.TheVariants.{Met, Unmet}
 
-module _ {Key Id Name : Type 0} (m : Meaning Key Id Name) where
-  -- Both regions are known.
-  abbrev pub KnowsBoth : OutlivesPredicate Key (RegionKey Key) → Type 0
-  KnowsBoth p = IsTrue (known (m.region p.0)) × IsTrue (known (m.region p.1))
+module _ {Key : Type 0} (is : RegionKey Key → Bool) where
+  -- Both regions are such.
+  abbrev pub AreSuch : OutlivesPredicate Key (RegionKey Key) → Type 0
+  AreSuch p = IsTrue (is p.0) × IsTrue (is p.1)
 
-  abbrev pub KnowsSolved : Solved Key → Type 0
-  KnowsSolved (Met values) = All KnowsBoth values.items
-  KnowsSolved (Unmet longer shorter by) = IsTrue (known (m.region longer)) × IsTrue (known (m.region shorter))
+  -- All regions are such that an answer names.
+  abbrev pub NamesSuch : Solved Key → Type 0
+  NamesSuch (Met values) = All AreSuch values.items
+  NamesSuch (Unmet longer shorter by) = IsTrue (is longer) × IsTrue (is shorter)
+
+-- All are known.
+abbrev pub KnowsSolved : {Key Id Name : Type 0} → Meaning Key Id Name → Solved Key → Type 0
+KnowsSolved m solved = NamesSuch (λ r. known (m.region r)) solved

@@ -8,6 +8,7 @@ pub mod methods;
 pub mod overlapping;
 mod printing;
 mod regions;
+mod rows;
 
 pub use printing::write_solved;
 pub use regions::{NotSolved, StatedOutlives, ask_solved};

@@ -2,6 +2,8 @@
 use Rattle.std.proofs.Common.{◌≡◌, sym, subst, Ok}
 use Rattle.relation_terms.proofs.Stays.{extends_on}
 use Rattle.relation_folds.specs.Faults.{IfSpent}
+use Rattle.relation_semantics.specs.Steps.{IsLater}
+use Rattle.relation_semantics.specs.Stores.{IsSound}
 use Rattle.relation_regions.specs.Answers.{Decides, FollowsStill, IsCertain, IsClash, IsUnsaid, IsPossible}
 use Rattle.relation_regions.proofs.Answering.{clash_decides, clash_follows, clash_certain, clash_is, clash_unsaid}
 use Rattle.relation_regions.proofs.Answering.{clash_possible, clash_spent, told_decides, told_follows, told_certain}
@@ -182,3 +184,46 @@ returns-clause-possible g c =
     c.in-Ok.ensures.leaves.grown c.solve.ensures.grows.extends c.solve.ensures.same_record
     c.in_ok-solved.solved c.in_ok-solved.ensures.met c.in-Ok.ensures.asks.goals.0
     c.in-Ok.ensures.both.sound.0)
+
+-- What is left where they aren't related.
+pub returns-in-Err-clause-later : goal.returns-in-Err-clause-later
+returns-in-Err-clause-later g c = c.in-Err.ensures.leaves.later
+
+pub returns-in-Err-clause-sound : goal.returns-in-Err-clause-sound
+returns-in-Err-clause-sound g c = c.in-Err.ensures.leaves.store_sound
+
+pub returns-in-Err-clause-lawful : goal.returns-in-Err-clause-lawful
+returns-in-Err-clause-lawful g c = c.in-Err.ensures.leaves.lawful
+
+pub returns-in-Err-clause-grown : goal.returns-in-Err-clause-grown
+returns-in-Err-clause-grown g c = c.in-Err.ensures.leaves.grown
+
+-- What is left where solving was refused memory.
+pub returns-in_err-solved-clause-later : goal.returns-in_err-solved-clause-later
+returns-in_err-solved-clause-later g c = subst (λ st. IsLater (g.C.InferCtxtLike.state c.args.ctx.now).store st)
+    (sym c.solve.ensures.same_record) c.in-Ok.ensures.leaves.later
+
+pub returns-in_err-solved-clause-sound : goal.returns-in_err-solved-clause-sound
+returns-in_err-solved-clause-sound g c =
+    subst IsSound (sym c.solve.ensures.same_record) c.in-Ok.ensures.leaves.store_sound
+
+pub returns-in_err-solved-clause-lawful : goal.returns-in_err-solved-clause-lawful
+returns-in_err-solved-clause-lawful g c = c.solve.ensures.grows.lawful
+
+pub returns-in_err-solved-clause-grown : goal.returns-in_err-solved-clause-grown
+returns-in_err-solved-clause-grown g c =
+    extends_on c.in-Ok.ensures.leaves.grown c.solve.ensures.grows.extends
+
+-- What is left otherwise.
+pub returns-clause-later : goal.returns-clause-later
+returns-clause-later g c = subst (λ st. IsLater (g.C.InferCtxtLike.state c.args.ctx.now).store st)
+    (sym c.solve.ensures.same_record) c.in-Ok.ensures.leaves.later
+
+pub returns-clause-sound : goal.returns-clause-sound
+returns-clause-sound g c = subst IsSound (sym c.solve.ensures.same_record) c.in-Ok.ensures.leaves.store_sound
+
+pub returns-clause-lawful : goal.returns-clause-lawful
+returns-clause-lawful g c = c.solve.ensures.grows.lawful
+
+pub returns-clause-spent : goal.returns-clause-spent
+returns-clause-spent g c = tt
