@@ -70,7 +70,7 @@ module _ {Key Id Name F : Type 0} (c d : Context Key Id Name) (ks : List (Binder
 
   pub stays_first_order : (result : Result (Told Key) F) → IfOk result (TellsGoal c d ks e g) →
       YesStaysFirstOrder c d ks g result
-  stays_first_order (Ok (Yes i)) t = λ rs x f. (t.0 (c.store).universe rs x f).store
+  stays_first_order (Ok (Yes i)) t = λ rs x f. (t.1 (c.store).universe rs x f).store
   stays_first_order (Ok (No named)) t = tt
   stays_first_order (Ok (Maybe why)) t = tt
   stays_first_order (Err f) t = tt
