@@ -118,8 +118,8 @@ class Crate:
                 if it.of and it.name in new and it.origin == OTHER and is_blanket(it):
                     text += [it.trait, *it.asks]
         self.find_types(used)
-        known = {*self.types, *self.traits, *(used & described.PLAIN)}
         self.traits = {name: it for name, it in self.traits.items() if name in used or it.local}
+        known = {*self.types, *self.traits, *(used & described.PLAIN)}
         self.impls = [it for it in self.impls if it.origin == OWN or it.name in used and self.speaks_of(it, known)]
 
     def speaks_of(self, impl, known):
