@@ -26,8 +26,8 @@ returns-in-Trait g c =
     let says = is_of m k c.clause_kind.result (subst (λ n. n.clause k ≡ clause_tree n c.clause_kind.result)
     c.cx.ensures c.clause_kind.ensures) (Trait c.in-Trait.value) c.in-Trait.is in
     if_none c.term_refusal.result (λ h.
-        let may = subst (MayBeRelated s.store) (sym says) h in
-        record { is_known = c.requires; is_in = may.0; taken = may.1 }) c.term_refusal.ensures
+    let may = subst (MayBeRelated s.store) (sym says) h in
+    record { is_known = c.requires; is_in = may.0; taken = may.1 }) c.term_refusal.ensures
 
 pub term_refusal-in-Projection-requires : goal.term_refusal-in-Projection-requires
 term_refusal-in-Projection-requires g c =
@@ -45,5 +45,5 @@ returns-in-Projection g c =
     let says = is_of m k c.clause_kind.result (subst (λ n. n.clause k ≡ clause_tree n c.clause_kind.result)
     c.cx.ensures c.clause_kind.ensures) (Projection c.in-Projection.value) c.in-Projection.is in
     if_none c.term_refusal-in-Projection.result (λ h.
-        let may = subst (MayBeRelated s.store) (sym says) h in
-        record { is_known = c.requires; is_in = may.0; taken = may.1 }) c.term_refusal-in-Projection.ensures
+    let may = subst (MayBeRelated s.store) (sym says) h in
+    record { is_known = c.requires; is_in = may.0; taken = may.1 }) c.term_refusal-in-Projection.ensures
