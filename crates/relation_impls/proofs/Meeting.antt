@@ -15,9 +15,9 @@ use Rattle.relation_semantics.specs.Relation.{IsValueLeaf}
 use Rattle.relation_semantics.specs.Stores.{InContext}
 use Rattle.relation_semantics.proofs.Exactness.{same_erased}
 use Rattle.relation_semantics.proofs.Standing.{term_context}
-use Rattle.relation_semantics.proofs.Values.{variables_fit}
+use Rattle.relation_semantics.proofs.Values.{variables_fit, variables_namable}
 use Rattle.relation_solver.specs.Rules.{Rule, one, all, Follows}
-use Rattle.relation_solver.proofs.Opened.{opened_value, opened_values, variables_namable, before_making}
+use Rattle.relation_solver.proofs.Opened.{opened_value, opened_values, before_making}
 use Rattle.relation_solver.proofs.Opened.{opened_are_unconstrained}
 use Rattle.relation_solver.proofs.Solving.{follows_all, fitted, fitted_agrees, asks_alike}
 use Rattle.relation_proving.specs.declared.candidate.Candidate.TheVariants.{Asks, Apart as GivesNothing}

@@ -12,10 +12,10 @@ use Rattle.relation_semantics.specs.FirstOrder.{IsErasedSolution}
 use Rattle.relation_semantics.specs.Bound.{IsWellBound}
 use Rattle.relation_semantics.specs.Stores.{IsSound, IsTermIn, Store, entry_term}
 use Rattle.relation_semantics.proofs.StoreCalls.{bindings_are_met}
-use Rattle.relation_semantics.proofs.Values.{variables_fit}
+use Rattle.relation_semantics.proofs.Values.{variables_fit, variables_namable}
 use Rattle.relation_solver.specs.Rules.{Rule, all, Follows}
 use Rattle.relation_solver.specs.Traces.{Opens}
-use Rattle.relation_solver.proofs.Opened.{opened_value, opened_values, variables_namable}
+use Rattle.relation_solver.proofs.Opened.{opened_value, opened_values}
 use Rattle.relation_solver.proofs.Opened.{opened_are_unconstrained}
 use Rattle.relation_proving.specs.Candidates.{MayAsk, IsFirstOrderAt, IsFirstOrderClause}
 use Rattle.relation_proving.specs.RuleTerms.{MayUse, OpensRule}
