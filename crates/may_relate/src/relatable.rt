@@ -45,8 +45,8 @@ pub trait Relatable<C: HasVariables>: HasTree<C::Interner> {
 /// binder in it binds what stands in its body as what its list says it is. That is all that relating asks of a known
 /// term.
 ///
-/// A type is tested once under the same binders, and once at all where nothing escapes from it, but that the first 32
-/// are not remembered.
+/// A type is tested once inside of the same binder, and once at all where nothing escapes from it, but that the first
+/// 32 of either are not remembered.
 ///
 /// # Errors
 /// The first reason why not, which is so of something that stands in the term: then the term may not be related. Or

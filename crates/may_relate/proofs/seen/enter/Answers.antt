@@ -12,13 +12,13 @@ returns-then-is_binder-clause-inside g c = λ st ls all.
     let ks = sorts_inside (part_tree m c.args.part.now) ls in
     record {
       closed = all.closed;
-      here = subst (λ s. AllHere st ks m s.kept) (sym c.replace.ensures.after)
-          (none_here m st ks c.new.result.kept c.new.ensures.kept);
+      here = subst (λ s. AllHere st ks m s.keys) (sym c.replace.ensures.after)
+          (none_here m st ks c.with_hasher-none.result.keys c.with_hasher-none.ensures.empty);
     }
 
 pub returns-then-is_binder-clause-outside : goal.returns-then-is_binder-clause-outside
 returns-then-is_binder-clause-outside g c = λ st ls all.
-    subst (λ s. AllHere st ls (g.I.Interner.meaning c.args.cx.now) s.kept) (sym c.replace.ensures.value) all.here
+    subst (λ s. AllHere st ls (g.I.Interner.meaning c.args.cx.now) s.keys) (sym c.replace.ensures.value) all.here
 
 pub returns-else-is_binder-clause-inside : goal.returns-else-is_binder-clause-inside
 returns-else-is_binder-clause-inside g c = λ st ls all.
