@@ -1,6 +1,7 @@
 //! Why a goal is not asked about, if it may not be: what the solver wants of rules and of a goal is tested.
 ghost use Rattle.std.specs.Prelude.{IsTrue, IfNone};
 ghost use Rattle.std.specs.List.{All};
+ghost use Rattle.relation_terms.specs.Meaning.{under};
 ghost use Rattle.relation_terms.specs.Trees.{known};
 ghost use Rattle.may_relate.specs.Fitting.{MayBeRelated};
 ghost use Rattle.relation_proving.specs.Candidates.{MayAsk};
@@ -37,31 +38,46 @@ fn term_refusal<C: HasVariables, T: Relatable<C>>(ctx: &C, term: &T) -> Option<W
     }
 }
 
+// Why it is not asked about a term under a binder of this list, if that may not be related.
+fn under_refusal<C: HasVariables, T: Relatable<C> + Copy>(
+    ctx: &C,
+    value: T,
+    bound_vars: BoundVars<C::Interner>,
+) -> Option<WhyNot>
+    requires { let m = (C.state ctx.now).meaning in IsTrue (known (under (m.bound_vars bound_vars) (T.tree m value))) }
+    ensures { let m = (C.state ctx.now).meaning in
+        IfNone result (MayBeRelated (C.state ctx.now).store (under (m.bound_vars bound_vars) (T.tree m value))) }
+{
+    term_refusal(ctx, &Binder { value, bound_vars })
+}
+
 // Why a clause of a rule is not asked about under the rule's binder, if it may not be.
 fn clause_refusal<C: HasVariables>(
     ctx: &C,
-    bound_vars: BoundVars<C::Interner>,
+    around: BoundVars<C::Interner>,
     clause: &Clause<C::Interner>,
 ) -> Option<WhyNot>
-    requires { IsTrue (known (clause_under (C.state ctx.now) bound_vars clause.now)) }
-    ensures { IfNone result (FitsUnder (C.state ctx.now) bound_vars clause.now) }
+    requires { IsTrue (known (clause_under (C.state ctx.now) around clause.now)) }
+    ensures { IfNone result (FitsUnder (C.state ctx.now) around clause.now) }
 {
-    let form = ctx.cx().clause_kind(clause);
-    match form.value {
-        ClauseKind::Trait(of) => {
-            let value = Binder {
+    let Binder { value, bound_vars } = ctx.cx().clause_kind(clause);
+    match value {
+        ClauseKind::Trait(of) => under_refusal(
+            ctx,
+            Binder {
                 value: of,
-                bound_vars: form.bound_vars,
-            };
-            term_refusal(ctx, &Binder { value, bound_vars })
-        }
-        ClauseKind::Projection(of) => {
-            let value = Binder {
+                bound_vars,
+            },
+            around,
+        ),
+        ClauseKind::Projection(of) => under_refusal(
+            ctx,
+            Binder {
                 value: of,
-                bound_vars: form.bound_vars,
-            };
-            term_refusal(ctx, &Binder { value, bound_vars })
-        }
+                bound_vars,
+            },
+            around,
+        ),
         _ => Some(WhyNot::NoTrait),
     }
 }
