@@ -11,7 +11,7 @@ use crate::proving::{
 use kept_records::KeepsRecord;
 use may_relate::HasVariables;
 use reference_interner::{RefInterner, SymbolId};
-use relation_folds::error::RelateResult;
+use relation_folds::error::{RelateFault, RelateResult};
 use relation_impls::impls::{Impls, WhyApart, impls_overlap};
 use relation_proving::checking::rules_may_be_used;
 use relation_proving::opening::RuleOf;
@@ -42,7 +42,10 @@ pub fn ask_two<C: KeepsRecord + HasVariables>(
     ensures apart { IfSome result (λ r. IfOk r (TellsApart (C.state ctx.old) impls.now left right)) }
     ensures meets { IfSome result (λ r. IfOk r (TellsMeeting (C.state ctx.old) impls.now left right)) }
 {
-    if !rules_may_be_used(&*ctx, impls) {
+    let Ok(may) = rules_may_be_used(&*ctx, impls) else {
+        return Some(Err(RelateFault::Memory));
+    };
+    if !may {
         return None;
     }
     let span = ctx.cx().dummy_span();
