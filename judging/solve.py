@@ -160,7 +160,9 @@ def line(case, number):
 
 
 def told(answer):
-    return {"maybe: ambiguous": AMBIGUOUS, "maybe: depth": DEEP, "budget": DEEP}.get(answer, answer)
+    """Gives the verdict of an answer, without the rule that it names, or the goal that failed."""
+    verdict = re.match(r"(yes|no)(?=$| by |: )", answer)
+    return verdict[1] if verdict else {"maybe: ambiguous": AMBIGUOUS, "maybe: depth": DEEP, "budget": DEEP}.get(answer, answer)
 
 
 def is_open(text, bound, seen=()):

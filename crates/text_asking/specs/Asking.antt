@@ -24,6 +24,8 @@ use Rattle.term_enums.specs.declared.StructurallyRelateAliases.TheVariants.{No, 
 use Rattle.relation_semantics.specs.declared.infer_ctxt.TypingMode.{TypingMode}
 use Rattle.relation_semantics.specs.declared.infer_ctxt.TypingMode.TheVariants as typing
 use Rattle.relation_semantics.specs.Goals.{KnowsGoal}
+use Rattle.relation_proving.specs.declared.told.Told.{Told}
+use Rattle.relation_proving.specs.declared.told.Told.TheVariants.{No as not_so}
 use Rattle.text_reading.specs.declared.reading.tree.Relation.{Relation}
 use Rattle.text_reading.specs.declared.reading.tree.Relation.TheVariants as relation
 use Rattle.text_reading.specs.declared.naming.program.Mode.{Mode}
@@ -127,6 +129,11 @@ abbrev pub KnowsRelated : {Key Id Name : Type 0} → Meaning Key Id Name →
 KnowsRelated m (Ok goals) = All (KnowsGoal m) goals.items
 KnowsRelated m (Err e) = KnowsFault m e
 
+-- The goal is known that a no names.
+abbrev pub KnowsTold : {Key Id Name F : Type 0} → Meaning Key Id Name → Result (Told Key) F → Type 0
+KnowsTold m (Ok (not_so named)) = IfSome named (λ b. IsTrue (known (m.clause b.goal)))
+KnowsTold m told = Unit {0}
+
 -- What an answer names is known: of a relation, what is asked of its answer.
 abbrev pub KnowsAnswer : {R K Key Id Name : Type 0} → Meaning Key Id Name → (R → Type 0) → Answer R K Key Id Name → Type 0
 KnowsAnswer m Knows (Related r) = Knows r
@@ -142,7 +149,7 @@ KnowsAnswer m Knows (Binding b) = IfSome b (λ a. IsTrue (known (arg_tree m a)))
 KnowsAnswer m Knows (Solved s) = KnowsSolved m s
 KnowsAnswer m Knows (Overlap of told) = KnowsOverlap m told
 KnowsAnswer m Knows (Methods names) = Unit {0}
-KnowsAnswer m Knows (Proved told) = Unit {0}
+KnowsAnswer m Knows (Proved told source) = KnowsTold m told
 
 -- What variables are bound to is known.
 abbrev pub AreBoundKnown : {K : Type 0} → (K → Tree) → List (Variable K) → Type 0

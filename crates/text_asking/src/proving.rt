@@ -1,10 +1,11 @@
 //! Whether a goal follows from a program's impls and from what is assumed, and how that is told.
-ghost use Rattle.std.specs.Prelude.{IfOk, IfSome};
+ghost use Rattle.std.specs.Prelude.{IsTrue, IfOk, IfSome};
 ghost use Rattle.std.specs.List.{All};
+ghost use Rattle.relation_terms.specs.Trees.{known};
 ghost use Rattle.relation_terms.specs.Meaning.{Extends};
 ghost use Rattle.text_proving.specs.Made.{KnowsClause, KnowsMade};
 ghost use Rattle.variable_tables.specs.Tables.{IsLawful};
-ghost use Rattle.text_asking.specs.Asking.{AllReady, KnowsAnswer, KnowsRelated};
+ghost use Rattle.text_asking.specs.Asking.{AllReady, KnowsAnswer, KnowsRelated, KnowsTold};
 ghost use Rattle.text_asking.specs.Proofs.{KnowsProof};
 
 use crate::elaborating::clauses_of;
@@ -13,12 +14,15 @@ use crate::fits::{have_needed, needs_of};
 use crate::printing::{write_bound, write_constraints, write_tainted};
 use crate::question::{Answer, Outcome, Ready, Unasked};
 use may_relate::named_in;
+use relation_proving::proving::Told;
 use relation_reference::context::RefCtxt;
 use relation_terms::terms::{Binder, Clause, ClauseKey, ClausesKey, Interner, Keys, ParamEnvKey};
 use std::fmt::{self, Write};
 use text_clauses::building::build_clause;
-use text_proving::proving::{ProofResult, ask_proof, proof_text};
+use text_clauses::printing::write_clause;
+use text_proving::proving::{ProofResult, ask_proof, place_named, proof_text};
 use text_proving::rules::{RuleOf, rule_of, rules_held};
+use text_proving::sources::{Source, source_of, write_source};
 use text_reading::naming::{Impl, Parts};
 use text_terms::building::variables_at;
 use text_terms::printing::TextsOf;
@@ -117,6 +121,20 @@ fn proof_of<I: Interner>(
     })
 }
 
+// Of which statement the rule is that an answer names, if it names one, where so many rules are impls.
+fn source_named<I: Interner>(
+    cx: &I,
+    proof: &ProofOf<I>,
+    impls: usize,
+    told: &ProofResult<I>,
+) -> Option<Source>
+    requires { KnowsProof (I.meaning cx.now) proof.now }
+{
+    let place = place_named::<I>(told)?;
+    let held = proof.rules.len().saturating_sub(impls);
+    Some(source_of(cx, &proof.rules, &proof.param_env, held, place))
+}
+
 // Asks in a context whether a predicate follows within a depth, by its number, from a program's first impls and from
 // what is assumed.
 pub(super) fn ask_proved<I: Interner>(
@@ -142,9 +160,34 @@ pub(super) fn ask_proved<I: Interner>(
         return Err(Unasked::Memory);
     };
     match ask_proof(ctx, &proof.rules, proof.param_env, &proof.goal, depth) {
-        Ok(told) => Ok(Answer::Proved(told)),
+        Ok(told) => {
+            let source = source_named(&ctx.interner, &proof, impls, &told);
+            Ok(Answer::Proved(told, source))
+        }
         Err(why) => Err(Unasked::Proof(why)),
     }
+}
+
+// Writes by which statement a goal follows, or which goal failed and by which it was asked for, where that is told.
+fn write_why<I: Interner, W: Write>(
+    cx: &I,
+    texts: &TextsOf<I>,
+    told: &ProofResult<I>,
+    source: Source,
+    out: &mut W,
+) -> fmt::Result
+    requires { KnowsTold (I.meaning cx.now) told.now }
+{
+    match told {
+        Ok(Told::Yes(_)) => out.write_str(" by ")?,
+        Ok(Told::No(Some(blame))) => {
+            out.write_str(": ")?;
+            write_clause(cx, texts, &blame.goal, out)?;
+            out.write_str(", asked by ")?;
+        }
+        _ => return Ok(()),
+    }
+    write_source(source, out)
 }
 
 // Writes what is told of a goal, and then what the context has recorded: constraints on regions, and roots that are
@@ -153,11 +196,16 @@ pub(super) fn write_proved<I: Interner, W: Write>(
     ctx: &RefCtxt<I>,
     texts: &TextsOf<I>,
     told: &ProofResult<I>,
+    source: Option<Source>,
     out: &mut W,
 ) -> fmt::Result
-    requires { IsLawful (I.meaning ctx.now.interner) ctx.now.inner }
+    requires lawful { IsLawful (I.meaning ctx.now.interner) ctx.now.inner }
+    requires known { KnowsTold (I.meaning ctx.now.interner) told.now }
 {
     out.write_str(proof_text::<I>(told))?;
+    if let Some(source) = source {
+        write_why(&ctx.interner, texts, told, source, out)?;
+    }
     write_constraints(ctx, texts, out)?;
     write_bound(ctx, texts, out)?;
     write_tainted(ctx, out)

@@ -38,6 +38,7 @@ use relation_tools::outlives::Component;
 use std::alloc::{AllocError, Global};
 use text_elaboration::pulls::{Manner, Pulled};
 use text_proving::proving::WhyNot as WhyUnproved;
+use text_proving::sources::Source;
 use text_reading::naming::{Clause, Impl, Method, Parts, Put, Question, QuestionKind, Variables};
 use text_reading::reading::Relation;
 use text_terms::building::{key_at, keys_at, ty_at};
@@ -110,8 +111,8 @@ pub(super) enum Answer<R, K, X: Copy, D, N> {
     // Of two impls of a trait.
     Overlap(TraitId<D>, Result<Overlap<X, D, N>, RelateFault<X, D, N>>),
     Methods(Vec<N>),
-    // Of a goal.
-    Proved(Result<Told<X>, RelateFault<X, D, N>>),
+    // Of a goal, and of which statement the rule is that the answer names.
+    Proved(Result<Told<X>, RelateFault<X, D, N>>, Option<Source>),
 }
 
 // What is answered to a question over an interner.

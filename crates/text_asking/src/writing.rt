@@ -106,8 +106,8 @@ fn write_given<I: Interner, W: Write>(
             write_left(ctx, asked, out)
         }
         Answer::Methods(names) => write_methods::<I, W>(texts, names, out),
-        Answer::Proved(told) => {
-            write_proved(ctx, texts, told, out)?;
+        Answer::Proved(told, source) => {
+            write_proved(ctx, texts, told, *source, out)?;
             write_left(ctx, asked, out)
         }
     }
