@@ -48,7 +48,9 @@ use relation_terms::terms::{
 /// Answers `Unrelated` only where no assignment made the two one, `Budget` only where no instantiation is left, and
 /// `Memory` where a growth was refused. Also after an error all that was recorded stands, and the ambient variance is
 /// what it was.
+// It stands within the recursion, so that a pair that a step decides takes no call; what relates the parts stands apart.
 #[cycle(relate)]
+#[inline(always)]
 pub fn tys<I: Interner, R: TypeRelation<I>>(
     r: &mut R,
     a: &Ty<I>,
@@ -75,7 +77,7 @@ pub fn tys<I: Interner, R: TypeRelation<I>>(
             variance,
             answer,
         } => {
-            relate_with_variance(r, variance, &GenericArgKind::Ty(x), &GenericArgKind::Ty(y))?;
+            relate_again(r, variance, &GenericArgKind::Ty(x), &GenericArgKind::Ty(y))?;
             r.tys_done(&a, &b)?;
             Ok(answer)
         }
@@ -183,6 +185,23 @@ pub fn relate_with_variance<I: Interner, R: TypeRelation<I>>(
     answer
 }
 
+// The same, apart from what calls it, which takes less of the stack so.
+#[cycle(relate)]
+#[inline(never)]
+fn relate_again<I: Interner, R: TypeRelation<I>>(
+    r: &mut R,
+    variance: Variance,
+    a: &GenericArg<I>,
+    b: &GenericArg<I>,
+) -> RelateResult<I, GenericArg<I>>
+    requires lawful { (R.state r.old).lawful }
+    requires asked { AskedAt R.manner None arg_tree (R.state r.old) variance a.now b.now }
+    ensures related { RelatedAt R.manner None arg_tree (R.state r.old) (R.state r.new) variance a.now b.now result }
+    ensures kind { IfOk result (λ k. arg_sort k ≡ arg_sort a.now) }
+{
+    relate_with_variance(r, variance, a, b)
+}
+
 /// Relates two types by their outermost forms and their parts, and answers the form over what the parts answered.
 /// Where one is an error that is the answer, the left one's first, and nothing is recorded. Aliases are related by
 /// their items and arguments, and the answer is of the left one's kind.
@@ -191,7 +210,7 @@ pub fn relate_with_variance<I: Interner, R: TypeRelation<I>>(
 /// parts in order, each at the variance of its place; a `ConstMismatch` of two lengths is the `ArraySize` of both. All
 /// other errors of the parts are handed on.
 #[cycle(relate)]
-#[inline(always)]
+#[inline(never)]
 pub fn structurally_relate_tys<I: Interner, R: TypeRelation<I>>(
     r: &mut R,
     a: &Ty<I>,
@@ -432,7 +451,7 @@ fn relate_parts<I: Interner, R: TypeRelation<I>>(
 {
     match kind_of_part(a) {
         PartKind::Argument => {
-            let answer = relate(r, &the_arg(a), &the_arg(b))?;
+            let answer = relate_again(r, Variance::Covariant, &the_arg(a), &the_arg(b))?;
             Ok(of_arg(&answer))
         }
         PartKind::Binder => binders(r, a, b),

@@ -30,7 +30,7 @@ use Rattle.relation_recursion.proofs.ByParts.{no_inputs_yet, inputs_next, compar
 use Rattle.relation_recursion.proofs.ByParts.{depth_turned}
 use Rattle.part_variances.specs.Handing.{IsResultOfTy, IsResultOfConst, IsResultOfPart, named_place}
 use Rattle.relation_semantics.specs.Making.{arg_sort, FitArgs, form_over, const_over}
-use Rattle.relation_semantics.proofs.Answering.{same_items, same_settings, AreAnswers, answers_end, may_over, may_const_over, may_later, if_ok_both}
+use Rattle.relation_semantics.proofs.Answering.{same_items, same_settings, AreAnswers, answers_end, may_over, may_const_over, may_later, if_ok_both, covariantly}
 use Rattle.relation_recursion.specs.PredicateForms.{form_of_part}
 use Rattle.relation_recursion.proofs.PredicateForms.{arg_form, binder_form, made_form}
 use Rattle.relation_recursion.proofs.MadeAnew.{fit_end, fits_place}
@@ -220,8 +220,8 @@ tys-structurally_relate_tys-requires g t c κs within =
     let d = c.decreases in
     search rules
 
-pub tys-relate_with_variance-requires : goal.tys-relate_with_variance-requires
-tys-relate_with_variance-requires g t c κs within =
+pub tys-relate_again-requires : goal.tys-relate_again-requires
+tys-relate_again-requires g t c κs within =
     let r = g.R.HasState.state c.args.r.now in
     let M = g.R.TypeRelation.manner in
     let a = (r.meaning).ty c.args.a.now in
@@ -241,8 +241,8 @@ tys-relate_with_variance-requires g t c κs within =
     let d = c.decreases in
     search rules
 
-pub tys-returns-in_err-relate_with_variance-in-Again-clause-related : goal.tys-returns-in_err-relate_with_variance-in-Again-clause-related
-tys-returns-in_err-relate_with_variance-in-Again-clause-related g t c =
+pub tys-returns-in_err-relate_again-in-Again-clause-related : goal.tys-returns-in_err-relate_again-in-Again-clause-related
+tys-returns-in_err-relate_again-in-Again-clause-related g t c =
     let r = g.R.HasState.state c.args.r.now in
     let M = g.R.TypeRelation.manner in
     let a = (r.meaning).ty c.args.a.now in
@@ -255,15 +255,15 @@ tys-returns-in_err-relate_with_variance-in-Again-clause-related g t c =
     let l = (q.meaning).ty c.in-Again.b in
     let v = c.in-Again.variance in
     let o = (q.meaning).ty c.in-Again.answer in
-    let p = g.R.HasState.state c.relate_with_variance.new.r in
-    let inner : Related M q p (xform r.ambient v) x y (arg_tree p.meaning) (Err c.in_err-relate_with_variance-in-Again.field-0.0) =
-    subst (λ z. Related M q p (xform z v) x y (arg_tree p.meaning) (Err c.in_err-relate_with_variance-in-Again.field-0.0)) (step.passes).ambient c.in_err-relate_with_variance-in-Again.ensures.related in
-    let failed = as_err c.from_residual-in_err-relate_with_variance-in-Again.result c.in_err-relate_with_variance-in-Again.field-0.0
-    c.from_residual-in_err-relate_with_variance-in-Again.ensures.0
-    c.from_residual-in_err-relate_with_variance-in-Again.ensures.1 in
+    let p = g.R.HasState.state c.relate_again.new.r in
+    let inner : Related M q p (xform r.ambient v) x y (arg_tree p.meaning) (Err c.in_err-relate_again-in-Again.field-0.0) =
+    subst (λ z. Related M q p (xform z v) x y (arg_tree p.meaning) (Err c.in_err-relate_again-in-Again.field-0.0)) (step.passes).ambient c.in_err-relate_again-in-Again.ensures.related in
+    let failed = as_err c.from_residual-in_err-relate_again-in-Again.result c.in_err-relate_again-in-Again.field-0.0
+    c.from_residual-in_err-relate_again-in-Again.ensures.0
+    c.from_residual-in_err-relate_again-in-Again.ensures.1 in
     subst (λ z. Related M r p r.ambient a b (p.meaning).ty z) (sym failed)
     (again_refused M a b k l x y o v step.passes step.verdict step.exact step.built
-    (g.met.R.TypeRelation.sound c.relate_with_variance.new.r ((inner.passes).lawful ((step.passes).lawful c.requires.lawful))) (arg_tree p.meaning) (p.meaning).ty c.in_err-relate_with_variance-in-Again.field-0.0 inner)
+    (g.met.R.TypeRelation.sound c.relate_again.new.r ((inner.passes).lawful ((step.passes).lawful c.requires.lawful))) (arg_tree p.meaning) (p.meaning).ty c.in_err-relate_again-in-Again.field-0.0 inner)
 
 pub tys-returns-in_err-answer-in-Parts-clause-related : goal.tys-returns-in_err-answer-in-Parts-clause-related
 tys-returns-in_err-answer-in-Parts-clause-related g t c =
@@ -429,13 +429,13 @@ tys-tys_done-requires-in-Again-clause-asked g t c =
     let l = (q.meaning).ty c.in-Again.b in
     let v = c.in-Again.variance in
     let o = (q.meaning).ty c.in-Again.answer in
-    let p = g.R.HasState.state c.relate_with_variance.new.r in
-    let inner : Related M q p (xform r.ambient v) x y (arg_tree p.meaning) (Ok c.in_ok-relate_with_variance-in-Again.field-0) =
-    subst (λ z. Related M q p (xform z v) x y (arg_tree p.meaning) (Ok c.in_ok-relate_with_variance-in-Again.field-0)) (step.passes).ambient c.in_ok-relate_with_variance-in-Again.ensures.related in
+    let p = g.R.HasState.state c.relate_again.new.r in
+    let inner : Related M q p (xform r.ambient v) x y (arg_tree p.meaning) (Ok c.in_ok-relate_again-in-Again.field-0) =
+    subst (λ z. Related M q p (xform z v) x y (arg_tree p.meaning) (Ok c.in_ok-relate_again-in-Again.field-0)) (step.passes).ambient c.in_ok-relate_again-in-Again.ensures.related in
     let same_o : (p.meaning).ty c.in-Again.answer ≡ o =
     ((inner.passes).extends).ty c.in-Again.answer (step.verdict).answer_known in
     let done : Related M r p r.ambient a b (p.meaning).ty (Ok c.in-Again.answer) =
-    again_related M a b k l x y o v step.passes step.verdict step.exact step.built (arg_tree p.meaning) c.in_ok-relate_with_variance-in-Again.field-0 (p.meaning).ty
+    again_related M a b k l x y o v step.passes step.verdict step.exact step.built (arg_tree p.meaning) c.in_ok-relate_again-in-Again.field-0 (p.meaning).ty
     c.in-Again.answer same_o just inner in
     let same_x : (p.meaning).ty c.in-Again.a ≡ (q.meaning).ty c.in-Again.a =
     ((inner.passes).extends).ty c.in-Again.a ((step.verdict).read_asked).left_known in
@@ -460,13 +460,13 @@ tys-tys_done-requires-in-Again-clause-related g t c =
     let l = (q.meaning).ty c.in-Again.b in
     let v = c.in-Again.variance in
     let o = (q.meaning).ty c.in-Again.answer in
-    let p = g.R.HasState.state c.relate_with_variance.new.r in
-    let inner : Related M q p (xform r.ambient v) x y (arg_tree p.meaning) (Ok c.in_ok-relate_with_variance-in-Again.field-0) =
-    subst (λ z. Related M q p (xform z v) x y (arg_tree p.meaning) (Ok c.in_ok-relate_with_variance-in-Again.field-0)) (step.passes).ambient c.in_ok-relate_with_variance-in-Again.ensures.related in
+    let p = g.R.HasState.state c.relate_again.new.r in
+    let inner : Related M q p (xform r.ambient v) x y (arg_tree p.meaning) (Ok c.in_ok-relate_again-in-Again.field-0) =
+    subst (λ z. Related M q p (xform z v) x y (arg_tree p.meaning) (Ok c.in_ok-relate_again-in-Again.field-0)) (step.passes).ambient c.in_ok-relate_again-in-Again.ensures.related in
     let same_o : (p.meaning).ty c.in-Again.answer ≡ o =
     ((inner.passes).extends).ty c.in-Again.answer (step.verdict).answer_known in
     let done : Related M r p r.ambient a b (p.meaning).ty (Ok c.in-Again.answer) =
-    again_related M a b k l x y o v step.passes step.verdict step.exact step.built (arg_tree p.meaning) c.in_ok-relate_with_variance-in-Again.field-0 (p.meaning).ty
+    again_related M a b k l x y o v step.passes step.verdict step.exact step.built (arg_tree p.meaning) c.in_ok-relate_again-in-Again.field-0 (p.meaning).ty
     c.in-Again.answer same_o just inner in
     let same_x : (p.meaning).ty c.in-Again.a ≡ (q.meaning).ty c.in-Again.a =
     ((inner.passes).extends).ty c.in-Again.a ((step.verdict).read_asked).left_known in
@@ -474,7 +474,7 @@ tys-tys_done-requires-in-Again-clause-related g t c =
     ((inner.passes).extends).ty c.in-Again.b ((step.verdict).read_asked).right_known in
     subst₂ (λ t u. Shown M p p.ambient t u) (sym same_x) (sym same_y)
     (subst (λ v. Shown M p v k l)
-    (sym ((inner.passes).ambient ∙ (step.passes).ambient)) (again_shown M a b k l x y o v step.passes step.verdict step.exact step.built (arg_tree p.meaning) c.in_ok-relate_with_variance-in-Again.field-0 inner))
+    (sym ((inner.passes).ambient ∙ (step.passes).ambient)) (again_shown M a b k l x y o v step.passes step.verdict step.exact step.built (arg_tree p.meaning) c.in_ok-relate_again-in-Again.field-0 inner))
 
 pub tys-tys_done-requires-in-Again-clause-alone : goal.tys-tys_done-requires-in-Again-clause-alone
 tys-tys_done-requires-in-Again-clause-alone g t c =
@@ -491,13 +491,13 @@ tys-tys_done-requires-in-Again-clause-alone g t c =
     let l = (q.meaning).ty c.in-Again.b in
     let v = c.in-Again.variance in
     let o = (q.meaning).ty c.in-Again.answer in
-    let p = g.R.HasState.state c.relate_with_variance.new.r in
-    let inner : Related M q p (xform r.ambient v) x y (arg_tree p.meaning) (Ok c.in_ok-relate_with_variance-in-Again.field-0) =
-    subst (λ z. Related M q p (xform z v) x y (arg_tree p.meaning) (Ok c.in_ok-relate_with_variance-in-Again.field-0)) (step.passes).ambient c.in_ok-relate_with_variance-in-Again.ensures.related in
+    let p = g.R.HasState.state c.relate_again.new.r in
+    let inner : Related M q p (xform r.ambient v) x y (arg_tree p.meaning) (Ok c.in_ok-relate_again-in-Again.field-0) =
+    subst (λ z. Related M q p (xform z v) x y (arg_tree p.meaning) (Ok c.in_ok-relate_again-in-Again.field-0)) (step.passes).ambient c.in_ok-relate_again-in-Again.ensures.related in
     let same_o : (p.meaning).ty c.in-Again.answer ≡ o =
     ((inner.passes).extends).ty c.in-Again.answer (step.verdict).answer_known in
     let done : Related M r p r.ambient a b (p.meaning).ty (Ok c.in-Again.answer) =
-    again_related M a b k l x y o v step.passes step.verdict step.exact step.built (arg_tree p.meaning) c.in_ok-relate_with_variance-in-Again.field-0 (p.meaning).ty
+    again_related M a b k l x y o v step.passes step.verdict step.exact step.built (arg_tree p.meaning) c.in_ok-relate_again-in-Again.field-0 (p.meaning).ty
     c.in-Again.answer same_o just inner in
     let same_x : (p.meaning).ty c.in-Again.a ≡ (q.meaning).ty c.in-Again.a =
     ((inner.passes).extends).ty c.in-Again.a ((step.verdict).read_asked).left_known in
@@ -522,13 +522,13 @@ tys-returns-in_err-tys_done-in-Again-clause-related g t c =
     let l = (q.meaning).ty c.in-Again.b in
     let v = c.in-Again.variance in
     let o = (q.meaning).ty c.in-Again.answer in
-    let p = g.R.HasState.state c.relate_with_variance.new.r in
-    let inner : Related M q p (xform r.ambient v) x y (arg_tree p.meaning) (Ok c.in_ok-relate_with_variance-in-Again.field-0) =
-    subst (λ z. Related M q p (xform z v) x y (arg_tree p.meaning) (Ok c.in_ok-relate_with_variance-in-Again.field-0)) (step.passes).ambient c.in_ok-relate_with_variance-in-Again.ensures.related in
+    let p = g.R.HasState.state c.relate_again.new.r in
+    let inner : Related M q p (xform r.ambient v) x y (arg_tree p.meaning) (Ok c.in_ok-relate_again-in-Again.field-0) =
+    subst (λ z. Related M q p (xform z v) x y (arg_tree p.meaning) (Ok c.in_ok-relate_again-in-Again.field-0)) (step.passes).ambient c.in_ok-relate_again-in-Again.ensures.related in
     let same_o : (p.meaning).ty c.in-Again.answer ≡ o =
     ((inner.passes).extends).ty c.in-Again.answer (step.verdict).answer_known in
     let done : Related M r p r.ambient a b (p.meaning).ty (Ok c.in-Again.answer) =
-    again_related M a b k l x y o v step.passes step.verdict step.exact step.built (arg_tree p.meaning) c.in_ok-relate_with_variance-in-Again.field-0 (p.meaning).ty
+    again_related M a b k l x y o v step.passes step.verdict step.exact step.built (arg_tree p.meaning) c.in_ok-relate_again-in-Again.field-0 (p.meaning).ty
     c.in-Again.answer same_o just inner in
     let u = g.R.HasState.state c.tys_done-in-Again.new.self in
     let e = c.in_err-tys_done-in-Again in
@@ -554,13 +554,13 @@ tys-returns-in_ok-tys_done-in-Again-clause-related g t c =
     let l = (q.meaning).ty c.in-Again.b in
     let v = c.in-Again.variance in
     let o = (q.meaning).ty c.in-Again.answer in
-    let p = g.R.HasState.state c.relate_with_variance.new.r in
-    let inner : Related M q p (xform r.ambient v) x y (arg_tree p.meaning) (Ok c.in_ok-relate_with_variance-in-Again.field-0) =
-    subst (λ z. Related M q p (xform z v) x y (arg_tree p.meaning) (Ok c.in_ok-relate_with_variance-in-Again.field-0)) (step.passes).ambient c.in_ok-relate_with_variance-in-Again.ensures.related in
+    let p = g.R.HasState.state c.relate_again.new.r in
+    let inner : Related M q p (xform r.ambient v) x y (arg_tree p.meaning) (Ok c.in_ok-relate_again-in-Again.field-0) =
+    subst (λ z. Related M q p (xform z v) x y (arg_tree p.meaning) (Ok c.in_ok-relate_again-in-Again.field-0)) (step.passes).ambient c.in_ok-relate_again-in-Again.ensures.related in
     let same_o : (p.meaning).ty c.in-Again.answer ≡ o =
     ((inner.passes).extends).ty c.in-Again.answer (step.verdict).answer_known in
     let done : Related M r p r.ambient a b (p.meaning).ty (Ok c.in-Again.answer) =
-    again_related M a b k l x y o v step.passes step.verdict step.exact step.built (arg_tree p.meaning) c.in_ok-relate_with_variance-in-Again.field-0 (p.meaning).ty
+    again_related M a b k l x y o v step.passes step.verdict step.exact step.built (arg_tree p.meaning) c.in_ok-relate_again-in-Again.field-0 (p.meaning).ty
     c.in-Again.answer same_o just inner in
     let u = g.R.HasState.state c.tys_done-in-Again.new.self in
     let n = c.in_ok-tys_done-in-Again in
@@ -637,17 +637,17 @@ tys-returns-in_ok-tys_done-in-Parts-clause-registers g t c =
     (n.passes).added (n.passes).lengthens (c.in_ok-answer-in-Parts.ensures.asks
     (subst (λ k. (M k).registers_alone) (sym (same_settings (step.passes).kept)) promised)))
 
-pub tys-returns-in_err-relate_with_variance-in-Again-clause-registers : goal.tys-returns-in_err-relate_with_variance-in-Again-clause-registers
-tys-returns-in_err-relate_with_variance-in-Again-clause-registers g t c =
+pub tys-returns-in_err-relate_again-in-Again-clause-registers : goal.tys-returns-in_err-relate_again-in-Again-clause-registers
+tys-returns-in_err-relate_again-in-Again-clause-registers g t c =
     let r = g.R.HasState.state c.args.r.now in
     let M = g.R.TypeRelation.manner in
     let a = (r.meaning).ty c.args.a.now in
     let b = (r.meaning).ty c.args.b.now in
     let q = g.R.HasState.state c.tys.new.self in
-    let s = g.R.HasState.state c.relate_with_variance.new.r in
+    let s = g.R.HasState.state c.relate_again.new.r in
     again_registers M r q a b s (q.meaning).ty c.in-Again.a c.in-Again.b c.in-Again.x c.in-Again.y
     c.in-Again.answer c.in-Again.variance
-    c.from_residual-in_err-relate_with_variance-in-Again.result
+    c.from_residual-in_err-relate_again-in-Again.result
     (subst (λ z. StepsAtOnce M r q (q.meaning).ty a b (Ok z)) c.in-Again.is c.in_ok-answer.ensures.registers)
 
 pub tys-returns-in_err-tys_done-in-Again-clause-registers : goal.tys-returns-in_err-tys_done-in-Again-clause-registers
@@ -2153,7 +2153,7 @@ relate_in_order-relate_parts_with_variance-related-requires g t c κs within =
     let decides : w ≢ Bivariant = λ e. term_decides (items_in r) a i r.ambient form c.requires.decides (sym ew ∙ e) in
     let asked = next_asked M takes r q a b i x y kx ky k inv.fronted lx ly ex ey w ew eu in
     let smaller = next_under M takes r q a b i x y kx ky k inv.fronted lx ly ex ey in
-    let under : 8 * depth (q.store).budget (weight q.store x + weight q.store y) + 6 <
+    let under : 8 * depth (q.store).budget (weight q.store x + weight q.store y) + 7 <
     8 * depth (r.store).budget (weight r.store a + weight r.store b) = omega (arith, smaller) in
     let d = c.decreases in (
       search rules,
@@ -2525,8 +2525,8 @@ relate_parts_with_variance-relate_parts-answer-requires g t c κs within =
     let kind = c.requires.kind in
     let paired = c.requires.paired in
     let same = depth_turned c.args.a.now c.args.b.now there in
-    let under : 8 * depth (s.store).budget (weight s.store (part_tree s.meaning c.args.a.now) + weight s.store (part_tree s.meaning c.args.b.now)) + 5 <
-    8 * depth (r.store).budget (weight r.store a + weight r.store b) + 6 = omega (arith, same) in
+    let under : 8 * depth (s.store).budget (weight s.store (part_tree s.meaning c.args.a.now) + weight s.store (part_tree s.meaning c.args.b.now)) + 6 <
+    8 * depth (r.store).budget (weight r.store a + weight r.store b) + 7 = omega (arith, same) in
     let d = c.decreases in (
       search rules,
       (
@@ -2585,8 +2585,8 @@ pub relate_parts-the_arg-requires-in-Argument : goal.relate_parts-the_arg-requir
 relate_parts-the_arg-requires-in-Argument g t c = are_args c.args.b.now
     (paired_args c.args.a.now c.args.b.now ((c.in-Argument.ensures.argument).0 refl) c.requires.paired)
 
-pub relate_parts-relate-requires : goal.relate_parts-relate-requires
-relate_parts-relate-requires g t c κs within =
+pub relate_parts-relate_again-requires : goal.relate_parts-relate_again-requires
+relate_parts-relate_again-requires g t c κs within =
     let r = g.R.HasState.state c.args.r.now in
     let M = g.R.TypeRelation.manner in
     let a = part_tree r.meaning c.args.a.now in
@@ -2598,10 +2598,11 @@ relate_parts-relate-requires g t c κs within =
     let eb : b ≡ arg_tree r.meaning Y = ap (part_tree r.meaning) (sym c.the_arg-in-Argument.ensures) ∙ arg_part r.meaning Y in
     let lawful = c.requires.lawful in
     let decides = c.requires.decides in
-    let asked = subst₂ (λ x y. Asked M r r.ambient x y) ea eb c.requires.asked in
+    let asked = subst (λ z. Asked M r z (arg_tree r.meaning X) (arg_tree r.meaning Y)) (sym (covariantly r.ambient))
+    (subst₂ (λ x y. Asked M r r.ambient x y) ea eb c.requires.asked) in
     let same = ap₂ (λ x y. depth (r.store).budget (weight r.store x + weight r.store y)) ea eb in
-    let under : 8 * depth (r.store).budget (weight r.store (arg_tree r.meaning X) + weight r.store (arg_tree r.meaning Y)) + 3 <
-    8 * depth (r.store).budget (weight r.store a + weight r.store b) + 5 = omega (arith, same) in
+    let under : 8 * depth (r.store).budget (weight r.store (arg_tree r.meaning X) + weight r.store (arg_tree r.meaning Y)) + 5 <
+    8 * depth (r.store).budget (weight r.store a + weight r.store b) + 6 = omega (arith, same) in
     let d = c.decreases in (
       search rules,
       (
@@ -2616,7 +2617,7 @@ relate_parts-relate-requires g t c κs within =
                 within.1.1.1.1.0,
                 (
                   within.1.1.1.1.1,
-                  (lawful, (decides, asked)),
+                  (lawful, asked),
                 ),
               ),
             ),
@@ -2636,8 +2637,11 @@ relate_parts-returns-in_ok-answer-in-Argument g t c =
     let Y = c.the_arg-in-Argument.result in
     let ea : a ≡ arg_tree r.meaning X = ap (part_tree r.meaning) (sym c.the_arg.ensures) ∙ arg_part r.meaning X in
     let eb : b ≡ arg_tree r.meaning Y = ap (part_tree r.meaning) (sym c.the_arg-in-Argument.ensures) ∙ arg_part r.meaning Y in
-    let q = g.R.HasState.state c.relate.new.r in
+    let q = g.R.HasState.state c.relate_again.new.r in
     let n = c.in_ok-answer-in-Argument in
+    let inner : Related M r q r.ambient (arg_tree r.meaning X) (arg_tree r.meaning Y) (arg_tree q.meaning) (Ok n.answer) =
+    subst (λ z. Related M r q z (arg_tree r.meaning X) (arg_tree r.meaning Y) (arg_tree q.meaning) (Ok n.answer))
+    (covariantly r.ambient) (n.ensures).related in
     let sort : part_sort c.of_arg.result ≡ part_sort c.args.a.now =
     sort_as_arg c.of_arg.result n.answer c.of_arg.ensures ∙ (n.ensures).kind
     ∙ sym (sort_as_arg c.args.a.now X (sym c.the_arg.ensures)) in
@@ -2645,7 +2649,7 @@ relate_parts-returns-in_ok-answer-in-Argument g t c =
       related = subst₂ (λ x y. Related M r q r.ambient x y (part_tree q.meaning) (Ok c.of_arg.result)) (sym ea) (sym eb)
           (retold M r.ambient (arg_tree r.meaning X) (arg_tree r.meaning Y) (arg_tree q.meaning) n.answer
           (part_tree q.meaning) c.of_arg.result
-          (ap (part_tree q.meaning) c.of_arg.ensures ∙ arg_part q.meaning n.answer) (n.ensures).related);
+          (ap (part_tree q.meaning) c.of_arg.ensures ∙ arg_part q.meaning n.answer) inner);
       sort = sort;
       predicate = arg_form c.args.a.now c.of_arg.result arg sort;
       alike = λ o. absurd (arg_not_compared c.args.a.now arg o);
@@ -2662,15 +2666,18 @@ relate_parts-returns-in_err-answer-in-Argument g t c =
     let Y = c.the_arg-in-Argument.result in
     let ea : a ≡ arg_tree r.meaning X = ap (part_tree r.meaning) (sym c.the_arg.ensures) ∙ arg_part r.meaning X in
     let eb : b ≡ arg_tree r.meaning Y = ap (part_tree r.meaning) (sym c.the_arg-in-Argument.ensures) ∙ arg_part r.meaning Y in
-    let q = g.R.HasState.state c.relate.new.r in
+    let q = g.R.HasState.state c.relate_again.new.r in
     let n = c.in_err-answer-in-Argument in
+    let inner : Related M r q r.ambient (arg_tree r.meaning X) (arg_tree r.meaning Y) (arg_tree q.meaning) (Err n.field-0.0) =
+    subst (λ z. Related M r q z (arg_tree r.meaning X) (arg_tree r.meaning Y) (arg_tree q.meaning) (Err n.field-0.0))
+    (covariantly r.ambient) (n.ensures).related in
     let res = c.from_residual.result in
     let failed = as_err res n.field-0.0 c.from_residual.ensures.0 c.from_residual.ensures.1 in
     record {
       related = subst (λ z. Related M r q r.ambient a b (part_tree q.meaning) z) (sym failed)
           (subst₂ (λ x y. Related M r q r.ambient x y (part_tree q.meaning) (Err n.field-0.0)) (sym ea) (sym eb)
           (refused_again M r.ambient (arg_tree r.meaning X) (arg_tree r.meaning Y) (arg_tree q.meaning)
-          (part_tree q.meaning) n.field-0.0 (n.ensures).related));
+          (part_tree q.meaning) n.field-0.0 inner));
       sort = subst (λ u. IfOk u (λ z. part_sort z ≡ part_sort c.args.a.now)) (sym failed) tt;
       predicate = subst (λ u. IfOk u (λ z. form_of_part z ≡ form_of_part c.args.a.now)) (sym failed) tt;
       alike = λ o. subst (λ u. OnOk u (AreOfOneForm a b)) (sym failed) tt;
@@ -2688,7 +2695,7 @@ relate_parts-binders-requires g t c κs within =
     let asked = c.requires.asked in
     let one_sort = paired_binders c.args.a.now c.args.b.now binder c.requires.paired in
     let under : 8 * depth (r.store).budget (weight r.store a + weight r.store b) + 4 <
-    8 * depth (r.store).budget (weight r.store a + weight r.store b) + 5 = omega arith in
+    8 * depth (r.store).budget (weight r.store a + weight r.store b) + 6 = omega arith in
     let d = c.decreases in (
       search rules,
       (
@@ -2788,7 +2795,7 @@ relate_parts-relate_in_order-requires g t c κs within =
     let asked = c.requires.asked in
     let alike = (c.in_ok-compare_parts_of-in-Form.ensures).alike in
     let under : 8 * depth (r.store).budget (weight r.store a + weight r.store b) <
-    8 * depth (r.store).budget (weight r.store a + weight r.store b) + 5 = omega arith in
+    8 * depth (r.store).budget (weight r.store a + weight r.store b) + 6 = omega arith in
     let d = c.decreases in (
       search rules,
       (
@@ -2978,7 +2985,7 @@ binders-relate_parts-requires g t c κs within =
     let kind = opened_related c.in_ok-x.field-0 c.in-Some.x c.in-Some.y c.in-Some.is (c.in_ok-x.ensures).related in
     let paired = opened_paired c.in_ok-x.field-0 c.in-Some.x c.in-Some.y c.in-Some.is (c.in_ok-x.ensures).paired in
     let less = first_under M (o.passes).added a b x y o.verdict in
-    let under : 8 * depth (q.store).budget (weight q.store x + weight q.store y) + 5 <
+    let under : 8 * depth (q.store).budget (weight q.store x + weight q.store y) + 6 <
     8 * depth (r.store).budget (weight r.store a + weight r.store b) + 4 = omega (arith, less) in
     let d = c.decreases in
     search (rules, lawful, decides, asked, kind, paired, under)
@@ -3162,7 +3169,7 @@ binders-relate_parts-requires-2 g t c κs within =
     let kind = opened_related c.in_ok-x-2.field-0 c.in-Some-2.x c.in-Some-2.y c.in-Some-2.is (c.in_ok-x-2.ensures).related in
     let paired = opened_paired c.in_ok-x-2.field-0 c.in-Some-2.x c.in-Some-2.y c.in-Some-2.is (c.in_ok-x-2.ensures).paired in
     let less = second_under M (again.passes).added a b s u half again.verdict in
-    let under : 8 * depth (w.store).budget (weight w.store s + weight w.store u) + 5 <
+    let under : 8 * depth (w.store).budget (weight w.store s + weight w.store u) + 6 <
     8 * depth (r.store).budget (weight r.store a + weight r.store b) + 4 = omega (arith, less) in
     let d = c.decreases in
     search (rules, lawful, decides, asked, kind, paired, under)

@@ -41,6 +41,11 @@ decreases-relate_with_variance g l =
     let r = g.R.HasState.state l.r.now in
     8 * depth (r.store).budget (weight r.store (arg_tree r.meaning l.a.now) + weight r.store (arg_tree r.meaning l.b.now)) + 4
 
+abbrev pub decreases-relate_again : goal.decreases-relate_again
+decreases-relate_again g l =
+    let r = g.R.HasState.state l.r.now in
+    8 * depth (r.store).budget (weight r.store (arg_tree r.meaning l.a.now) + weight r.store (arg_tree r.meaning l.b.now)) + 5
+
 abbrev pub decreases-relate_in_order : goal.decreases-relate_in_order
 decreases-relate_in_order g l =
     let r = g.R.HasState.state l.r.now in
@@ -49,12 +54,12 @@ decreases-relate_in_order g l =
 abbrev pub decreases-relate_parts : goal.decreases-relate_parts
 decreases-relate_parts g l =
     let r = g.R.HasState.state l.r.now in
-    8 * depth (r.store).budget (weight r.store (part_tree r.meaning l.a.now) + weight r.store (part_tree r.meaning l.b.now)) + 5
+    8 * depth (r.store).budget (weight r.store (part_tree r.meaning l.a.now) + weight r.store (part_tree r.meaning l.b.now)) + 6
 
 abbrev pub decreases-relate_parts_with_variance : goal.decreases-relate_parts_with_variance
 decreases-relate_parts_with_variance g l =
     let r = g.R.HasState.state l.r.now in
-    8 * depth (r.store).budget (weight r.store (part_tree r.meaning l.a.now) + weight r.store (part_tree r.meaning l.b.now)) + 6
+    8 * depth (r.store).budget (weight r.store (part_tree r.meaning l.a.now) + weight r.store (part_tree r.meaning l.b.now)) + 7
 
 abbrev pub decreases-binders : goal.decreases-binders
 decreases-binders g l =
