@@ -165,7 +165,8 @@ pub(super) fn context_for<I: Interner>(
 
 // The type of that number.
 pub(super) fn type_of<I: Interner>(terms: &Ready<I>, number: usize) -> Result<Ty<I>, Unasked>
-    ensures { (m : Meaning I.Key I.Id I.Name) → AllReady m terms.now → IfOk result (λ ty. IsTrue (known (m.ty ty))) }
+    ensures { (m : Meaning I.Key I.Id I.Name) → AllReady m terms.now →
+        IfOk result (λ ty. IsTrue (known (m.ty ty))) }
 {
     match ty_at(terms.built, number) {
         Some(ty) => Ok(ty),
