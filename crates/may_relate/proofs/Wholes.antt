@@ -118,7 +118,7 @@ inside_same ls (cons t ts) e = refl
 
 module _ {Key Id Name : Type 0} (m : Meaning Key Id Name) where
   -- The sorts of a binder's list.
-  same_sorts : (xs : List (BoundVariableKind Name)) → map variable_sort xs ≡ map bound_sort (bound_kinds m xs)
+  pub same_sorts : (xs : List (BoundVariableKind Name)) → map variable_sort xs ≡ map bound_sort (bound_kinds m xs)
   same_sorts [] = refl
   same_sorts (variable_of.Ty n ∷ xs) = ap (λ s. type_sort ∷ s) (same_sorts xs)
   same_sorts (variable_of.Region n ∷ xs) = ap (λ s. region_sort ∷ s) (same_sorts xs)
