@@ -64,7 +64,8 @@ pub fn part_fits<C: HasVariables>(
     }
     own(ctx, cx, part, around)?;
     let inside = inside(&*cx, part, &*around, seen)?;
-    list_fits(ctx, cx, &parts_of(cx, part), &inside, seen)?;
+    let parts = parts_of(cx, part);
+    list_fits(ctx, cx, &parts, &inside, seen)?;
     remember(cx, seen, part, around)
 }
 
