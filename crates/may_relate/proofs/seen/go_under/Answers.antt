@@ -14,7 +14,6 @@ returns-in-Ok-clause-seen g c = λ st all.
     let us = c.add.new.self in
     let vars = c.args.vars.now in
     let grown = c.add.ensures.added in
-    let kept = λ u k. kept_grown m st ns us (c.number_around.result, vars) grown u (all.under u k) in
     let known = known_grown m st ns us (c.number_around.result, vars) grown all.binders c.requires in
     let numbered = numbered_grown m st ns us (c.number_around.result, vars) grown a all.numbered in
     let has = subst (λ r. IfOk r (HasAt (λ x y. nat_eq x.0 y.0 && g.I.Key.PartialEq.eq x.1.0 y.1.0) us
@@ -23,8 +22,18 @@ returns-in-Ok-clause-seen g c = λ st all.
         c.number_around.ensures (stands_found m st (λ k l. g.I.Key.PartialEq.eq k.0 l.0)
         (g.met.I.Interner.same_bound_vars c.args.cx.now) us c.number_around.result vars c.in-Ok.place known has
         (bound_kinds m c.bound_vars-list.result.now) c.bound_vars-list.ensures c.requires) in
-    (record { closed = all.closed; under = kept; binders = known; numbered = numbered },
-    record { closed = all.closed; under = kept; binders = known; numbered = (stands, numbered) })
+    (record {
+      closed = all.closed;
+      under = λ u k. kept_grown m st ns us (c.number_around.result, vars) grown u (all.under u k);
+      binders = known;
+      numbered = numbered;
+    },
+    record {
+      closed = all.closed;
+      under = λ u k. kept_grown m st ns us (c.number_around.result, vars) grown u (all.under u k);
+      binders = known;
+      numbered = (stands, numbered);
+    })
 
 pub returns-in-Err-clause-seen : goal.returns-in-Err-clause-seen
 returns-in-Err-clause-seen g c = λ st all.
