@@ -1,7 +1,7 @@
 -- From the parts of a term to the term.
 use Rattle.std.proofs.Common.{◌≡◌, ℕ, zero, suc, ◌<◌, refl, sym, ap, ◌∙◌, subst, subst₂, arith, List, [], ◌∷◌, map}
 use Rattle.std.proofs.Common.{false, Option, Some, IsTrue, Result, Ok, Err, IfErr, ⊎_elim, inl, inr}
-use Rattle.std.specs.Prelude.{OnOk, IsErrAnd}
+use Rattle.std.specs.Prelude.{IfOk, OnOk, IsErrAnd}
 use Rattle.relation_terms.specs.Heads.{Sort, no_sort, region_sort, type_sort, const_sort}
 use Rattle.relation_terms.specs.Heads.{BoundKind, bound_kind, region_kind, type_kind, const_kind, bound_sort}
 use Rattle.relation_terms.specs.Heads.{type_var, int_var, float_var, const_var, region_var}
@@ -18,7 +18,9 @@ use Rattle.relation_terms.specs.declared.terms.binder.BoundVariableKind.TheVaria
 use Rattle.relation_folds.specs.Visits.{visited_sort}
 use Rattle.relation_folds.proofs.Visiting.{has_sort}
 use Rattle.relation_semantics.specs.Stores.{Store}
-use Rattle.may_relate.specs.Around.{variable_sort}
+use Rattle.relation_terms.specs.declared.terms.keys.BoundVarsKey.{BoundVarsKey}
+use Rattle.may_relate.specs.declared.around.Around.{Around, Nothing, Binder'}
+use Rattle.may_relate.specs.Around.{variable_sort, sorts_around, IsInside}
 use Rattle.may_relate.specs.declared.unfit.Unfit.{Unfit}
 use Rattle.may_relate.specs.declared.unfit.Unfit.TheVariants.{Memory}
 use Rattle.may_relate.specs.Fitting.{FitsAll, FitsOwn, SomeUnfit, OwnUnfit, TellsUnfit}
@@ -118,33 +120,57 @@ inside_same ls (cons t ts) e = refl
 
 module _ {Key Id Name : Type 0} (m : Meaning Key Id Name) where
   -- The sorts of a binder's list.
-  same_sorts : (xs : List (BoundVariableKind Name)) → map variable_sort xs ≡ map bound_sort (bound_kinds m xs)
+  pub same_sorts : (xs : List (BoundVariableKind Name)) → map variable_sort xs ≡ map bound_sort (bound_kinds m xs)
   same_sorts [] = refl
   same_sorts (variable_of.Ty n ∷ xs) = ap (λ s. type_sort ∷ s) (same_sorts xs)
   same_sorts (variable_of.Region n ∷ xs) = ap (λ s. region_sort ∷ s) (same_sorts xs)
   same_sorts (variable_of.Const n ∷ xs) = ap (λ s. const_sort ∷ s) (same_sorts xs)
 
   -- What a binder binds stands innermost around its body.
-  pub inside_more : (ls : List (List Sort)) (o : Option (List BoundKind)) (t : Tree)
-      (xs : List (BoundVariableKind Name)) → o ≡ Some (bound_kinds m xs) →
-      map variable_sort xs ∷ ls ≡ sorts_inside (under o t) ls
+  inside_more : (ls : List (List Sort)) (o : Option (List BoundKind)) (t : Tree) (xs : List (BoundVariableKind Name)) →
+      o ≡ Some (bound_kinds m xs) → map variable_sort xs ∷ ls ≡ sorts_inside (under o t) ls
   inside_more ls o t xs e =
       ap (λ s. s ∷ ls) (same_sorts xs) ∙ ap (λ x. sorts_inside (under x t) ls) (sym e)
 
+  pub sorts_under : {E : Type 0} (vars : BoundVarsKey Key) (a : Around Name) (t : Tree) (r : Result (Around Name) E) →
+      IfOk r (IsInside m vars a) →
+      IfOk r (λ b. sorts_around b ≡ sorts_inside (under (m.bound_vars vars) t) (sorts_around a))
+  sorts_under vars a t (Ok Nothing) h = absurd h
+  sorts_under vars a t (Ok (Binder' list place p outer)) h =
+      ap (λ o. map variable_sort list.now ∷ sorts_around o) h.1 ∙
+      inside_more (sorts_around a) (m.bound_vars vars) t list.now h.0
+  sorts_under vars a t (Err e) h = tt
+
   -- A binder, by its body.
-  pub ok_binder : {E : Type 0} (st : Store) (ls : List (List Sort)) (o : Option (List BoundKind)) (t : Tree)
+  ok_binder : {E : Type 0} (st : Store) (ls : List (List Sort)) (o : Option (List BoundKind)) (t : Tree)
       (xs : List (BoundVariableKind Name)) (r : Result (Unit {0}) E) → o ≡ Some (bound_kinds m xs) →
       OnOk r (FitsAll st (map variable_sort xs ∷ ls) t) → OnOk r (FitsAll st ls (under o t))
   ok_binder st ls o t xs (Ok x) e h =
       subst (λ u. FitsAll st ls (under u t)) (sym e) (subst (λ s. FitsAll st (s ∷ ls) t) (same_sorts xs) h)
   ok_binder st ls o t xs (Err x) e h = tt
 
-  pub err_binder : (st : Store) (ls : List (List Sort)) (o : Option (List BoundKind)) (t : Tree)
+  err_binder : (st : Store) (ls : List (List Sort)) (o : Option (List BoundKind)) (t : Tree)
       (xs : List (BoundVariableKind Name)) (r : Result (Unit {0}) Unfit) → o ≡ Some (bound_kinds m xs) →
       IfErr r (TellsUnfit st (map variable_sort xs ∷ ls) t) → IfErr r (TellsUnfit st ls (under o t))
   err_binder st ls o t xs (Ok x) e h = tt
   err_binder st ls o t xs (Err x) e h =
       subst (λ u. TellsUnfit st ls (under u t) x) (sym e) (subst (λ s. TellsUnfit st (s ∷ ls) t x) (same_sorts xs) h)
+
+  pub ok_under : {E : Type 0} (st : Store) (vars : BoundVarsKey Key) (a b : Around Name) (t : Tree)
+      (r : Result (Unit {0}) E) → IsInside m vars a b → OnOk r (FitsAll st (sorts_around b) t) →
+      OnOk r (FitsAll st (sorts_around a) (under (m.bound_vars vars) t))
+  ok_under st vars a Nothing t r h f = absurd h
+  ok_under st vars a (Binder' list place p outer) t r h f =
+      ok_binder st (sorts_around a) (m.bound_vars vars) t list.now r h.0
+      (subst (λ o. OnOk r (FitsAll st (map variable_sort list.now ∷ sorts_around o) t)) h.1 f)
+
+  pub err_under : (st : Store) (vars : BoundVarsKey Key) (a b : Around Name) (t : Tree) (r : Result (Unit {0}) Unfit) →
+      IsInside m vars a b → IfErr r (TellsUnfit st (sorts_around b) t) →
+      IfErr r (TellsUnfit st (sorts_around a) (under (m.bound_vars vars) t))
+  err_under st vars a Nothing t r h f = absurd h
+  err_under st vars a (Binder' list place p outer) t r h f =
+      err_binder st (sorts_around a) (m.bound_vars vars) t list.now r h.0
+      (subst (λ o. IfErr r (TellsUnfit st (map variable_sort list.now ∷ sorts_around o) t)) h.1 f)
 
   -- The same of known parts: of what is no type, region or constant, and of what is no binder.
   pub unasked_part : (st : Store) (ls : List (List Sort)) → Sorted m → (p : Part Key Id) →

@@ -3,11 +3,15 @@
 --   variable_sort x       the sort of a binder's variable
 --   sort_of s             the sort of what a binder binds
 --   sorts_around around   the lists of the binders, the innermost first, as the sorts of what stands in them
+--   number_around around  the number of the binders, 0 of none
+--   IsInside m vs a b     b is what stands around the body of a binder of a list, under binders a
 --   sort_at ls d i        the sort of what stands at place i of the list of the binder d steps up
 --   IsUnbound ls d i s e  what is said to be bound there as one of sort s isn't, for the reason e
 use Rattle.std.specs.Prelude.{◌≡◌, ◌≢◌, ℕ, zero, suc, ◌+◌, ◌<◌, List, [], ◌∷◌, map, length, Option, Some, None}
 use Rattle.std.specs.Prelude.{slice_get}
 use Rattle.relation_terms.specs.Heads.{Sort, region_sort, type_sort, const_sort}
+use Rattle.relation_terms.specs.Meaning.{Meaning, bound_kinds}
+use Rattle.relation_terms.specs.declared.terms.keys.BoundVarsKey.{BoundVarsKey}
 use Rattle.relation_terms.specs.declared.terms.binder.BoundVariableKind.{BoundVariableKind}
 use Rattle.relation_terms.specs.declared.terms.binder.BoundVariableKind.TheVariants as variable
 use Rattle.may_relate.specs.declared.unfit.Unfit.{Unfit}
@@ -31,7 +35,19 @@ sort_of Const = const_sort
 -- The lists of the binders, the innermost first, as the sorts of what stands in them.
 abbrev pub sorts_around : {Name : Type 0} → Around Name → List (List Sort)
 sorts_around Nothing = []
-sorts_around (Binder' list p outer) = map variable_sort list.now ∷ sorts_around outer
+sorts_around (Binder' list place p outer) = map variable_sort list.now ∷ sorts_around outer
+
+-- The number of the binders.
+abbrev pub number_around : {Name : Type 0} → Around Name → ℕ
+number_around Nothing = 0
+number_around (Binder' list place p outer) = place + 1
+
+-- The binders around the body of a binder of a list.
+abbrev pub IsInside : {Key Id Name : Type 0} → Meaning Key Id Name → BoundVarsKey Key → Around Name → Around Name →
+    Type 0
+IsInside m vars around Nothing = ⊥
+IsInside m vars around (Binder' list place p outer) =
+    (m.bound_vars vars ≡ Some (bound_kinds m list.now)) × (outer ≡ around)
 
 -- The sort of what stands at a place of the list of the binder so many steps up.
 abbrev pub sort_at : List (List Sort) → ℕ → ℕ → Option Sort

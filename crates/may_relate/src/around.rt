@@ -1,6 +1,6 @@
 //! The binders around a term.
 ghost use Rattle.std.specs.Prelude.{◌≡◌, ◌↔◌, IsTrue, IfErr, OnOk, Some, map, slice_get};
-ghost use Rattle.may_relate.specs.Around.{variable_sort, sort_of, sorts_around, sort_at, IsUnbound};
+ghost use Rattle.may_relate.specs.Around.{variable_sort, sort_of, sorts_around, number_around, sort_at, IsUnbound};
 
 use crate::Unfit;
 use relation_terms::terms::{BoundVar, BoundVariableKind, DebruijnIndex, Keys};
@@ -10,12 +10,22 @@ use relation_terms::terms::{BoundVar, BoundVariableKind, DebruijnIndex, Keys};
 pub enum Around<'a, N> {
     /// None.
     Nothing,
-    /// One with its list, and those around it.
-    Binder(&'a [BoundVariableKind<N>], &'a Around<'a, N>),
+    /// One with its list, the place where it is numbered, and those around it.
+    Binder(&'a [BoundVariableKind<N>], u32, &'a Around<'a, N>),
 }
 
 /// The binders around a term of an interner.
 pub type AroundOf<'a, I> = Around<'a, <I as Keys>::Name>;
+
+/// The number of the binders around a term: 0 is that of none.
+pub fn number_around<N>(around: &Around<N>) -> u64
+    ensures { result ≡ number_around around.now }
+{
+    match around {
+        Around::Nothing => 0,
+        Around::Binder(_, place, _) => *place as u64 + 1,
+    }
+}
 
 /// What a binder binds.
 #[derive(Clone, Copy)]
@@ -54,14 +64,14 @@ fn bound_in<N>(around: &Around<N>, depth: u64, place: usize, sort: BoundSort) ->
 {
     match around {
         Around::Nothing => Err(Unfit::Escapes(DebruijnIndex(depth))),
-        Around::Binder(list, _) if depth == 0 => {
+        Around::Binder(list, _, _) if depth == 0 => {
             if has(list, place, sort) {
                 Ok(())
             } else {
                 Err(Unfit::NotInList(BoundVar(place)))
             }
         }
-        Around::Binder(_, outer) => bound_in(outer, depth - 1, place, sort),
+        Around::Binder(_, _, outer) => bound_in(outer, depth - 1, place, sort),
     }
 }
 

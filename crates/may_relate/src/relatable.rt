@@ -32,12 +32,12 @@ pub trait Relatable<C: HasVariables>: HasTree<C::Interner> {
         seen: &mut SeenOf<C::Interner>,
     ) -> Result<(), Unfit>
         requires known { IsTrue (known (Self.tree (C.Interner.meaning cx.now) self.now)) }
-        requires seen { AllSeen (C.state ctx.now).store (sorts_around around.now) (C.Interner.meaning cx.now) seen.old }
+        requires seen { AllSeen (C.state ctx.now).store around.now (C.Interner.meaning cx.now) seen.old }
         ensures fits { OnOk result (FitsAll (C.state ctx.now).store (sorts_around around.now)
             (Self.tree (C.Interner.meaning cx.now) self.now)) }
         ensures why { IfErr result (TellsUnfit (C.state ctx.now).store (sorts_around around.now)
             (Self.tree (C.Interner.meaning cx.now) self.now)) }
-        ensures seen { AllSeen (C.state ctx.now).store (sorts_around around.now) (C.Interner.meaning cx.now) seen.new };
+        ensures seen { AllSeen (C.state ctx.now).store around.now (C.Interner.meaning cx.now) seen.new };
 }
 
 /// Nothing, where a known term may be related in a context as it stands: its variables are the context's, its
@@ -45,8 +45,8 @@ pub trait Relatable<C: HasVariables>: HasTree<C::Interner> {
 /// binder in it binds what stands in its body as what its list says it is. That is all that relating asks of a known
 /// term.
 ///
-/// A type is tested once inside of the same binder, and once at all where nothing escapes from it, but that the first
-/// 32 of either are not remembered.
+/// A type is tested once under the same binders, and once at all where nothing escapes from it, but that the first 32 of
+/// either are not remembered.
 ///
 /// # Errors
 /// The first reason why not, which is so of something that stands in the term: then the term may not be related. Or

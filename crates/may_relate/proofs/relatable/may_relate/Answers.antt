@@ -18,4 +18,4 @@ returns-clause-why g c =
     (ap (λ m. g.T.HasTree.tree m c.args.term.now) c.cx-cx.ensures) c.fits.ensures.why
 
 pub fits-requires-clause-seen : goal.fits-requires-clause-seen
-fits-requires-clause-seen g c = c.none_seen-seen.ensures _ _
+fits-requires-clause-seen g c = c.none_seen-seen.ensures _

@@ -1,10 +1,9 @@
-use Rattle.std.proofs.Common.{rules, arith, ap, sym, subst, ◌≡◌, ◌<◌, ◌+◌, ◌*◌}
+use Rattle.std.proofs.Common.{rules, arith, ap, subst, ◌≡◌, ◌<◌, ◌+◌, ◌*◌}
 use Rattle.relation_terms.specs.Trees.{size, count}
 use Rattle.relation_terms.specs.Parts.{part_tree, parts_tree, parts_of}
 use Rattle.relation_terms.proofs.Members.{member_small, parts_small}
 use Rattle.may_relate.specs.Around.{sorts_around}
 use Rattle.may_relate.specs.Fitting.{FitsAll, SomeUnfit, TellsUnfit}
-use Rattle.may_relate.specs.Seen.{AllSeen, LeadsBack}
 use Rattle.may_relate.proofs.Wholes.{fits_list, part_whole, handed_on, on_ok, refused}
 use Rattle.may_relate.proofs.Wholes.{unfit_nth, unfit_own, unfit_part}
 use Rattle.may_relate.proofs.walk.+walk.Goals as goal
@@ -38,8 +37,8 @@ list_fits-returns-in_err-part_fits-clause-why g t' c =
     (subst (λ x. SomeUnfit st ls x c.in_err-part_fits.field-0.0) c.member-part.ensures.means
     (c.in_err-part_fits.ensures.why other)))
 
-pub part_fits-list_fits-fit-requires : goal.part_fits-list_fits-fit-requires
-part_fits-list_fits-fit-requires g t' c κs within =
+pub part_fits-list_fits-requires : goal.part_fits-list_fits-requires
+part_fits-list_fits-requires g t' c κs within =
     let m = g.C.Interner.Interner.meaning c.args.cx.now in
     let st = (g.C.InferCtxtLike.state c.args.ctx.now).store in
     let t = part_tree m c.args.part.now in
@@ -49,8 +48,7 @@ part_fits-list_fits-fit-requires g t' c κs within =
     let is : size ts ≡ size (parts_of t) = ap size c.parts_of-parts.ensures.means in
     let small : 2 * size ts < 2 * size t + 1 = omega (arith, less, is) in
     let k = c.parts_of-parts.ensures.sure in
-    let seen = subst (λ ks. AllSeen st ks m c.enter-outside.new.seen) (sym c.inside.ensures)
-    (c.enter-outside.ensures.inside st (sorts_around c.args.around.now) c.requires.seen) in
+    let seen = (c.in_ok-inside.ensures.seen st c.requires.seen).1 in
     search rules
 
 pub part_fits-returns-in_err-own-clause-why : goal.part_fits-returns-in_err-own-clause-why
@@ -61,24 +59,23 @@ part_fits-returns-in_err-own-clause-why g t' c =
     handed_on c.from_residual.result (TellsUnfit st ls t) c.in_err-own.field-0.0 c.from_residual.ensures.1
     (λ other. unfit_own st ls t c.in_err-own.field-0.0 c.in_err-own.ensures.why)
 
-pub part_fits-returns-in_err-fit-clause-why : goal.part_fits-returns-in_err-fit-clause-why
-part_fits-returns-in_err-fit-clause-why g t' c =
-    let m = g.C.Interner.Interner.meaning c.args.cx.now in
-    let st = (g.C.InferCtxtLike.state c.args.ctx.now).store in
-    let ls = sorts_around c.args.around.now in
-    handed_on c.from_residual-in_err-fit.result (TellsUnfit st ls (part_tree m c.args.part.now)) c.in_err-fit.field-0.0
-    c.from_residual-in_err-fit.ensures.1
-    (λ other. unfit_part m st ls c.args.part.now (sorts_around c.inside.result) (parts_tree m c.parts_of-parts.result)
-    c.in_err-fit.field-0.0 c.inside.ensures c.parts_of-parts.ensures.means (c.in_err-fit.ensures.why other))
+pub part_fits-returns-in_err-inside-clause-seen : goal.part_fits-returns-in_err-inside-clause-seen
+part_fits-returns-in_err-inside-clause-seen g t' c =
+    (c.in_err-inside.ensures.seen (g.C.InferCtxtLike.state c.args.ctx.now).store c.requires.seen).0
 
-pub part_fits-returns-in_err-fit-clause-seen : goal.part_fits-returns-in_err-fit-clause-seen
-part_fits-returns-in_err-fit-clause-seen g t' c =
+pub part_fits-returns-in_err-list_fits-clause-why : goal.part_fits-returns-in_err-list_fits-clause-why
+part_fits-returns-in_err-list_fits-clause-why g t' c =
     let m = g.C.Interner.Interner.meaning c.args.cx.now in
     let st = (g.C.InferCtxtLike.state c.args.ctx.now).store in
     let ls = sorts_around c.args.around.now in
-    c.leave.ensures st ls (sorts_around c.inside.result) c.list_fits-fit.ensures.seen
-    (subst (λ ks. LeadsBack st ls ks m c.enter-outside.result) (sym c.inside.ensures)
-    (c.enter-outside.ensures.outside st ls c.requires.seen))
+    handed_on c.from_residual-in_err-list_fits.result (TellsUnfit st ls (part_tree m c.args.part.now))
+    c.in_err-list_fits.field-0.0 c.from_residual-in_err-list_fits.ensures.1
+    (λ other. unfit_part m st ls c.args.part.now _ (parts_tree m c.parts_of-parts.result) c.in_err-list_fits.field-0.0
+    c.in_ok-inside.ensures.sorts c.parts_of-parts.ensures.means (c.in_err-list_fits.ensures.why other))
+
+pub part_fits-returns-in_err-list_fits-clause-seen : goal.part_fits-returns-in_err-list_fits-clause-seen
+part_fits-returns-in_err-list_fits-clause-seen g t' c =
+    c.in_ok-inside.ensures.back (g.C.InferCtxtLike.state c.args.ctx.now).store _ c.in_err-list_fits.ensures.seen
 
 pub list_fits-returns-clause-fits : goal.list_fits-returns-clause-fits
 list_fits-returns-clause-fits g t' c =
@@ -99,8 +96,8 @@ part_fits-returns-clause-fits g t' c =
     let ls = sorts_around c.args.around.now in
     on_ok c.remember.result (FitsAll st ls (part_tree m c.args.part.now))
     (part_whole m st ls (g.met.C.Interner.Interner.sorted c.args.cx.now) c.args.part.now c.requires.known
-    c.in_ok-own.ensures.fits (sorts_around c.inside.result) (parts_tree m c.parts_of-parts.result) c.inside.ensures
-    c.parts_of-parts.ensures.means c.in_ok-fit.ensures.fits)
+    c.in_ok-own.ensures.fits _ (parts_tree m c.parts_of-parts.result) c.in_ok-inside.ensures.sorts
+    c.parts_of-parts.ensures.means c.in_ok-list_fits.ensures.fits)
 
 pub part_fits-returns-clause-why : goal.part_fits-returns-clause-why
 part_fits-returns-clause-why g t' c =
@@ -111,11 +108,7 @@ pub part_fits-returns-clause-seen : goal.part_fits-returns-clause-seen
 part_fits-returns-clause-seen g t' c =
     let m = g.C.Interner.Interner.meaning c.args.cx.now in
     let st = (g.C.InferCtxtLike.state c.args.ctx.now).store in
-    let ls = sorts_around c.args.around.now in
-    c.remember.ensures.seen st ls
-    (c.leave.ensures st ls (sorts_around c.inside.result) c.list_fits-fit.ensures.seen
-    (subst (λ ks. LeadsBack st ls ks m c.enter-outside.result) (sym c.inside.ensures)
-    (c.enter-outside.ensures.outside st ls c.requires.seen)))
-    (part_whole m st ls (g.met.C.Interner.Interner.sorted c.args.cx.now) c.args.part.now c.requires.known
-    c.in_ok-own.ensures.fits (sorts_around c.inside.result) (parts_tree m c.parts_of-parts.result) c.inside.ensures
-    c.parts_of-parts.ensures.means c.in_ok-fit.ensures.fits)
+    c.remember.ensures.seen st (c.in_ok-inside.ensures.back st _ c.in_ok-list_fits.ensures.seen)
+    (part_whole m st (sorts_around c.args.around.now) (g.met.C.Interner.Interner.sorted c.args.cx.now) c.args.part.now
+    c.requires.known c.in_ok-own.ensures.fits _ (parts_tree m c.parts_of-parts.result) c.in_ok-inside.ensures.sorts
+    c.parts_of-parts.ensures.means c.in_ok-list_fits.ensures.fits)
