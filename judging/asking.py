@@ -59,6 +59,18 @@ def split_list(text):
     return [*found, text[begin:].strip()] if text.strip() else []
 
 
+def told(text):
+    """Gives the verdict of an answer, without what it names beside."""
+    verdict = re.match(r"(yes|no)(?= by |: |; |$)", text)
+    return verdict[1] if verdict else text.split("; ")[0]
+
+
+def bindings(text):
+    """Gives what an answer says that variables are bound to."""
+    bound = re.search(r"; bound=\[(.*)\]", text)
+    return dict(it.split("=", 1) for it in split_list(bound[1])) if bound else {}
+
+
 def read(text):
     """Reads an answer: its constraints where it is `ok` or `meets`, and its bindings where it is `ok`."""
     said = re.match("[a-z ]*", text)[0].strip()

@@ -28,10 +28,13 @@ class Bounds:
             if path["path"].split("::")[-1] in ("Sized", "MetaSized", "PointeeSized"):
                 raise Unspelled(described.SIZED)
             with self.freeing(bound["generic_params"]):
+                before = len(self.scope.params)
                 trait = self.scope.trait(path, of)
                 self.say(f"{of}: {trait}")
                 for item, said in self.scope.constraints(path):
                     self.add_constraint(self.scope.alias(of, trait, item), said)
+                if "parenthesized" in (path["args"] or {}) and len(self.scope.params) > before:
+                    self.lacks.append(described.BINDER)
         except Unspelled as why:
             self.lacks.append(str(why))
 

@@ -231,8 +231,9 @@ class Scope:
         if spell is None:
             raise Unspelled(FORM)
         text = spell(x, outer) if kind == "dyn_trait" else spell(x)
-        if kind not in ("generic", "resolved_path"):
-            self.of.forms[form_of(kind, x, text)] = self.params
+        form = form_of(kind, x, text)
+        if kind not in ("generic", "resolved_path", "qualified_path") and " as " not in form:
+            self.of.forms[form] = self.params
         return text
 
     def spell_primitive(self, name):

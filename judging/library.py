@@ -8,7 +8,8 @@ from judging.aliases import cut
 from judging.asking import split_list
 
 FILE = os.path.join(os.path.dirname(os.path.realpath(__file__)), "library.txt")
-WORD = re.compile(r"'?\w+")
+# A word, which isn't the name of a type that a trait declares.
+WORD = re.compile(r"(?<!::)'?\b\w+")
 ITEM = re.compile(r"(?:(auto|unsized) )?(struct|trait) (\w+)(?:<(.*)>)?")
 # The end of a statement, which the length of an array isn't.
 END = re.compile(r";(?![^\[\]]*\])")

@@ -1,0 +1,95 @@
+"""What is known where bounds hold: they, what traits state beside, and of each type that their traits declare a name."""
+import re
+
+from judging.aliases import Aliases, comes_to, cut, name_for, spelled
+from judging.asking import split_list
+from judging.crate import names_first
+from judging.library import put
+
+# How many aliases may stand in one: of `T`, of its types, and of theirs.
+MOST = 3
+
+
+def arguments(trait):
+    """Gives the arguments of a trait."""
+    return split_list(trait.partition("<")[2][:-1])
+
+
+def stated_of(traits, clause):
+    """Gives the trait of a clause, and what it states of what has it: of that itself, and of the traits' types."""
+    of, trait = cut(clause, ": ")
+    known = traits.get(names_first(trait)) if trait else None
+    if known is None:
+        return None, [], []
+    values = {"Self": of, **dict(zip([name for _, name in known.params], arguments(trait)))}
+    return known, [put(it, values) for it in known.supers], [put(it, values) for it in known.states]
+
+
+class Environment:
+    """Bounds of a crate, with all that they imply: each alias of a parameter is a parameter of its own, if no bound says
+    to what it comes."""
+
+    def __init__(self, crate, bounds):
+        self.crate, self.clauses, self.made = crate, [], set()
+        self.depths = {}
+        self.aliases = Aliases(self.parameter)
+        for it in bounds:
+            self.aliases.note(it)
+        for it in bounds:
+            self.add(it)
+
+    def parameter(self, of, trait, item):
+        taken = {*self.made, *self.crate.of.taken, *re.findall(r"\w+", " ".join(self.clauses))}
+        name = self.crate.of.free_name("type", name_for(of, item, taken))
+        self.made.add(name)
+        self.depths[name] = self.depths.get(of, 0) + 1
+        return name
+
+    def add(self, clause):
+        clause = self.aliases.clause(clause)
+        said = comes_to(clause)
+        if said:
+            self.equate(self.aliases.known.get(said[0]), said[1])
+        elif clause not in self.clauses:
+            self.clauses.append(clause)
+            self.add_stated(clause)
+
+    def equate(self, name, term):
+        """Has one of the parameters that stand for aliases stand for what it is."""
+        if name in self.made and name != term:
+            self.clauses = list(dict.fromkeys(put(it, {name: term}) for it in self.clauses))
+            known = self.aliases.known.items()
+            self.aliases.known = {put(alias, {name: term}): put(it, {name: term}) for alias, it in known}
+
+    def add_stated(self, clause):
+        """Adds what a clause implies; of the types of its trait only where it is of a parameter."""
+        of, trait = cut(clause, ": ")
+        known, supers, states = stated_of(self.crate.traits, clause)
+        if known is None:
+            return
+        if not re.fullmatch(r"\w+", of) or of in self.crate.types or self.depths.get(of, 0) >= MOST:
+            states = []
+        else:
+            for it in states:
+                self.aliases.note(it)
+            for item in self.crate.of.declared.get(known.name, ()):
+                self.aliases.term((of, trait, item))
+        for it in [*supers, *states]:
+            self.add(it)
+
+    def text(self):
+        """Gives the statement that assumes all of it."""
+        said = [f"{alias} == {term}" for alias, term in self.aliases.known.items()]
+        return f"assume {', '.join(dict.fromkeys([*self.clauses, *said]))}" if self.clauses or said else "assume"
+
+
+def goal_in(environment, clause, own):
+    """Gives a goal in which a variable stands for each alias of which nothing is known, and what says what that comes to."""
+    asked = []
+
+    def variable(*alias):
+        asked.append(f"{spelled(*alias)} == ?{len(asked)}")
+        return f"?{len(asked) - 1}"
+
+    aliases = Aliases(variable, {**environment.aliases.known, **own})
+    return asked, aliases.clause(clause)
