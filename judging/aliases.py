@@ -3,6 +3,7 @@ import re
 
 # The name of a type behind the brackets of an alias.
 NAME = re.compile(r"::(\w+)")
+REGION = re.compile(r"'\??\w+")
 
 
 def closing(text, at):
@@ -40,11 +41,18 @@ def comes_to(clause):
     return (alias, term) if term else None
 
 
+def erased(text):
+    """Gives a text without its regions."""
+    return REGION.sub("'_", text)
+
+
 class Aliases:
-    """What aliases come to. `name(of, trait, item)` gives a term for one that isn't known yet."""
+    """What aliases come to. `name(of, trait, item)` gives a term for one that isn't known yet, but for regions."""
 
     def __init__(self, name, known=()):
-        self.name, self.known = name, dict(known)
+        self.name, self.known = name, {}
+        for alias, term in dict(known).items():
+            self.say(alias, term)
 
     def read(self, text, at):
         """Reads an alias: gives where it ends and how it is spelled by names."""
@@ -66,17 +74,24 @@ class Aliases:
         return "".join(found)
 
     def term(self, alias):
-        key = spelled(*alias)
-        if key not in self.known:
-            self.known[key] = self.name(*alias)
-        return self.known[key]
+        text = spelled(*alias)
+        if erased(text) not in self.known:
+            self.say(text, self.name(*alias))
+        return self.known[erased(text)][1]
+
+    def say(self, alias, term):
+        self.known.setdefault(erased(alias), (alias, term))
+
+    def said(self):
+        """Gives each alias that is known, and to what it comes."""
+        return list(self.known.values())
 
     def note(self, clause):
         """Notes what a clause says of an alias, if it does."""
         said = comes_to(clause)
         if said:
             _, alias = self.read(said[0], 0)
-            self.known.setdefault(spelled(*alias), self.put(said[1]))
+            self.say(spelled(*alias), self.put(said[1]))
 
     def clause(self, text):
         """Puts a term for each alias of a clause, but for the one of which the clause says to what it comes."""

@@ -3,7 +3,7 @@ import collections
 import re
 
 from judging import described, library
-from judging.aliases import Aliases, begins, comes_to, name_for, spelled
+from judging.aliases import Aliases, begins, comes_to, cut, name_for, spelled
 from judging.bounds import Bounds
 from judging.described import Described, Scope, Unspelled
 from judging.library import WORD, param_text, put
@@ -13,9 +13,9 @@ from judging.library import WORD, param_text, put
 Trait = collections.namedtuple("Trait", "place name params supers states lacks auto local")
 # An impl: its place, where it comes from, its parameters, its trait with arguments and the type; what it asks for, why
 # there is more, and which parameters may be unsized; what the types of its trait are, by their names, or why one is not
-# spelled. Where the head is not spelled `of` is nothing. For each type that a trait declares stands a parameter, and
-# that it is this type is asked for.
-Impl = collections.namedtuple("Impl", "place origin params name trait of asks lacks unsized gives unsaid")
+# spelled. Where the head is not spelled `of` is nothing. For each type that a trait declares stands a parameter; `made`
+# has these, each with what it stands for, and asks for that.
+Impl = collections.namedtuple("Impl", "place origin params name trait of asks lacks unsized gives unsaid made")
 # Of whom an impl is: of the crate, of the compiler's for auto traits, of another crate.
 OWN, AUTO, OTHER = "own", "auto", "other"
 
@@ -118,7 +118,7 @@ class Crate:
         gives, unsaid = self.given(scope, name, item)
         made = Impl(
             self.of.place(item), origin, scope.params, name, trait, of, bounds.clauses, tuple(bounds.lacks),
-            frozenset(bounds.unsized), gives, unsaid,
+            frozenset(bounds.unsized), gives, unsaid, (),
         )
         self.impls.append(self.with_params(made))
 
@@ -138,14 +138,14 @@ class Crate:
 
     def with_params(self, impl):
         """Puts a parameter for each type that a trait declares, and asks that it is that type."""
-        params, made, gives = list(impl.params), [], dict(impl.gives)
+        params, made, gives = list(impl.params), {}, dict(impl.gives)
 
         def name(*alias):
             of, trait, item = alias
             if (of, trait) == own and item in gives:
                 return aliases.put(gives[item])
             params.append(("type", self.of.free_name("type", name_for(of, item, [it for _, it in params]))))
-            made.append(f"{spelled(*alias)} == {params[-1][1]}")
+            made[params[-1][1]] = alias
             return params[-1][1]
 
         own, aliases = None, Aliases(name)
@@ -155,8 +155,10 @@ class Crate:
         own = (of, trait)
         asks = [aliases.clause(it) for it in impl.asks]
         gives = {item: aliases.put(ty) for item, ty in gives.items()}
-        asks = tuple(dict.fromkeys(in_order(asks, made)))
-        return impl._replace(params=tuple(params), of=of, trait=trait, asks=asks, gives=tuple(gives.items()))
+        said = [f"{spelled(*alias)} == {name}" for name, alias in made.items()]
+        unknown = {it for _, it in params} - names_in(f"{trait} {of}")
+        asks, gives = tuple(in_order(dict.fromkeys([*asks, *said]), unknown)), tuple(gives.items())
+        return impl._replace(params=tuple(params), of=of, trait=trait, asks=asks, gives=gives, made=tuple(made.items()))
 
     def renamed(self, it):
         """Gives an impl of the library as this crate names what is in it."""
@@ -165,7 +167,7 @@ class Crate:
         params = tuple((sort, values[name]) for sort, name in it.params)
         asks, gives = [put(ask, values) for ask in it.asks], [(item, put(ty, values)) for item, ty in it.gives]
         of, trait = put(it.of, values), put(it.trait, values)
-        made = Impl("the library", OTHER, params, names_first(trait), trait, of, asks, (), frozenset(), gives, ())
+        made = Impl("the library", OTHER, params, names_first(trait), trait, of, asks, (), frozenset(), gives, (), ())
         return self.with_params(made)
 
     def reach(self):
@@ -267,23 +269,27 @@ def is_plain(clause):
     return not any(begins(term, at) for at in range(len(term))) and of.count(" as ") < 2
 
 
-def in_order(asks, made):
-    """Puts what is asked of aliases before what is asked of their parameters."""
-    found, left = [], list(made)
-
-    def add(ask):
-        words = names_in(ask)
-        for it in [it for it in left if comes_to(it)[1] in words and it != ask]:
-            if it in left:
-                left.remove(it)
-                add(it)
-        found.append(ask)
-
-    for ask in asks:
-        add(ask)
+def in_order(asks, unknown):
+    """Gives what is asked for in such an order that parameters are known before something is asked of them: an alias makes
+    them known, and so does a trait's bound, if nothing else does."""
+    found, left, unknown = [], list(asks), set(unknown)
     while left:
-        add(left.pop(0))
+        ready = (it for of in (given_of, subject) for it in left if not names_in(of(it)) & unknown)
+        found.append(next(ready, left[0]))
+        left.remove(found[-1])
+        unknown -= names_in(found[-1])
     return found
+
+
+def given_of(clause):
+    """Gives the part of a clause that has to be known: all of it, but what an alias comes to."""
+    return (comes_to(clause) or (clause,))[0]
+
+
+def subject(clause):
+    """Gives what a clause is of: a type that has a trait, or whose type it speaks of."""
+    said = comes_to(clause)
+    return cut(said[0][1:], " as ")[0] if said else cut(clause, ": ")[0]
 
 
 def declarations(crate):

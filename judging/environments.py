@@ -4,7 +4,7 @@ import re
 from judging.aliases import Aliases, comes_to, cut, name_for, spelled
 from judging.asking import split_list
 from judging.crate import names_first
-from judging.library import put
+from judging.library import WORD, put
 
 # How many aliases may stand in one: of `T`, of its types, and of theirs.
 MOST = 3
@@ -29,9 +29,22 @@ class Environment:
     """Bounds of a crate, with all that they imply: each alias of a parameter is a parameter of its own, if no bound says
     to what it comes."""
 
-    def __init__(self, crate, bounds):
-        self.crate, self.clauses, self.made = crate, [], set()
-        self.depths = {}
+    def __init__(self, crate, impl, values):
+        """Takes the bounds of an impl, and what some of the parameters come to that stand for aliases. The others that may
+        come to something by impls are left out, with what is asked of them: they are `unknown`, each with its alias."""
+        self.crate, self.clauses, self.made, self.depths = crate, [], set(), {}
+        self.values, self.unknown = values, []
+        params = {name for _, name in impl.params} - {name for name, _ in impl.made}
+        for name, alias in impl.made:
+            of = put(alias[0], values)
+            if of in params:
+                params.add(name)
+            elif name not in values:
+                self.unknown.append((name, put(spelled(*alias), values)))
+        left = {name for name, _ in self.unknown}
+        bounds = [put(it, values) for it in impl.asks if not left & set(WORD.findall(it))]
+        own = {f"{put(spelled(*alias), values)} == {values[name]}" for name, alias in impl.made if name in values}
+        bounds = [it for it in bounds if it not in own or comes_to(it)[1] in values]
         self.aliases = Aliases(self.parameter)
         for it in bounds:
             self.aliases.note(it)
@@ -49,7 +62,7 @@ class Environment:
         clause = self.aliases.clause(clause)
         said = comes_to(clause)
         if said:
-            self.equate(self.aliases.known.get(said[0]), said[1])
+            self.equate(self.aliases.put(said[0]), said[1])
         elif clause not in self.clauses:
             self.clauses.append(clause)
             self.add_stated(clause)
@@ -58,8 +71,8 @@ class Environment:
         """Has one of the parameters that stand for aliases stand for what it is."""
         if name in self.made and name != term:
             self.clauses = list(dict.fromkeys(put(it, {name: term}) for it in self.clauses))
-            known = self.aliases.known.items()
-            self.aliases.known = {put(alias, {name: term}): put(it, {name: term}) for alias, it in known}
+            known = [(put(alias, {name: term}), put(it, {name: term})) for alias, it in self.aliases.said()]
+            self.aliases = Aliases(self.parameter, known)
 
     def add_stated(self, clause):
         """Adds what a clause implies; of the types of its trait only where it is of a parameter."""
@@ -79,17 +92,18 @@ class Environment:
 
     def text(self):
         """Gives the statement that assumes all of it."""
-        said = [f"{alias} == {term}" for alias, term in self.aliases.known.items()]
+        said = [f"{alias} == {term}" for alias, term in self.aliases.said()]
         return f"assume {', '.join(dict.fromkeys([*self.clauses, *said]))}" if self.clauses or said else "assume"
 
 
-def goal_in(environment, clause, own):
-    """Gives a goal in which a variable stands for each alias of which nothing is known, and what says what that comes to."""
+def goal_in(environment, impl, clause):
+    """Gives goals: what each alias of a clause comes to, of which nothing is known, and last the clause, over variables."""
     asked = []
 
     def variable(*alias):
         asked.append(f"{spelled(*alias)} == ?{len(asked)}")
         return f"?{len(asked) - 1}"
 
-    aliases = Aliases(variable, {**environment.aliases.known, **own})
-    return asked, aliases.clause(clause)
+    own = {spelled(impl.of, impl.trait, item): put(ty, environment.values) for item, ty in impl.gives}
+    aliases = Aliases(variable, [*own.items(), *environment.aliases.said()])
+    return [*asked, aliases.clause(put(clause, environment.values))]

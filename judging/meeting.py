@@ -1,22 +1,23 @@
 """Judges pairs of impls of one trait: no type has both, by their headers or by what they ask for."""
 import collections
+import copy
 import itertools
 
 from judging import headers, worlds
-from judging.aliases import comes_to, cut
 from judging.answering import AMBIGUOUS, BY_BOUND, BY_HEADER, BY_SIZED, DEPTH, ELSEWHERE, LATE, OPEN, UNSPELLED, WRONG
 from judging.answering import Judged, open_because
-from judging.asking import bindings, told
-from judging.crate import OTHER, OWN, head, is_blanket, is_whole
+from judging.asking import told
+from judging.crate import OTHER, OWN, head, is_blanket, is_whole, subject
 from judging.environments import arguments
 from judging.library import library, put
+from judging.turns import DECLARED, Bound
 
 # How deep goals are looked into, in which variables stand; how often more is asked once something was bound.
-BOUNDS_AT, ROUNDS = 3, 3
+BOUNDS_AT, ROUNDS = 3, 4
 
-# Two impls whose headers meet: what was said of them; a question that makes them one, what both ask for, and the variables
-# that are sized.
-Met = collections.namedtuple("Met", "pair said asked asks sized")
+# Two impls whose headers meet: what was said of them; a question that makes them one, what both ask for, the variables
+# that are sized, and what variables come to.
+Met = collections.namedtuple("Met", "pair said asked asks sized bound")
 
 
 def pairs_of(it):
@@ -45,83 +46,70 @@ def judge_pairs(it, asker):
     return found + judge_met(it, asker, met)
 
 
-def variables(impls):
-    """Gives for the parameters of each of two impls variables, behind those of the other."""
-    count, found = collections.Counter(), []
-    for impl in impls:
+def opened(pair, said):
+    """Opens two impls with variables, those of the second behind those of the first."""
+    bound, opened = Bound(), []
+    for impl in pair:
         values = {}
         for sort, name in impl.params:
-            values[name] = {"type": "?", "lifetime": "'?", "const": "?c"}[sort] + str(count[sort])
-            count[sort] += 1
-        found.append(values)
-    return found
-
-
-def opened(pair, said):
-    """Opens two impls with variables."""
-    values = variables(pair)
-    lists = [[put(arg, its) for arg in (impl.of, *arguments(impl.trait))] for impl, its in zip(pair, values)]
-    asks = [put(ask, its) for impl, its in zip(pair, values) for ask in impl.asks]
+            sign = {"type": "?", "lifetime": "'?", "const": "?c"}[sort]
+            values[name] = f"{sign}{bound.next[sign]}"
+            bound.next[sign] += 1
+        opened.append((impl, values))
+    lists = [[put(arg, its) for arg in (impl.of, *arguments(impl.trait))] for impl, its in opened]
+    asks = [put(ask, its) for impl, its in opened for ask in impl.asks]
     sized = [
-        its[name]
-        for impl, its in zip(pair, values)
-        for sort, name in impl.params
-        if sort == "type" and name not in impl.unsized
+        its[name] for impl, its in opened for sort, name in impl.params if sort == "type" and name not in impl.unsized
     ]
     left, right = (f"[{', '.join(it)}]" for it in lists)
-    return Met(pair, said, f"args {left} == {right}", list(dict.fromkeys(asks)), sized)
-
-
-def subject(clause):
-    """Gives what a clause is of: a type that has a trait, or whose type it speaks of."""
-    said = comes_to(clause)
-    return cut(said[0][1:], " as ")[0] if said else cut(clause, ": ")[0]
-
-
-def is_open(clause, bound):
-    """Says whether what a clause is of is a variable: then an impl may always be its."""
-    of = subject(clause)
-    while of in bound:
-        of = bound[of]
-    return of.startswith("?")
+    return Met(pair, said, f"args {left} == {right}", list(dict.fromkeys(asks)), sized, bound)
 
 
 def judge_met(it, asker, met):
     """Asks of impls whose headers meet whether a bound of theirs tells them apart: by what is spelled, by all impls, and by
     any beside."""
-    bounds = [bindings(some[0]) if some else {} for some in asker.ask([], [[one.asked] for one in met])]
+    for one, some in zip(met, asker.ask([DECLARED], [[one.asked] for one in met])):
+        one.bound.note(some[0] if some else "")
     worlds_of = (worlds.spelled(it), worlds.all_own(it), worlds.perhaps(it))
-    said = [said_of(asker, rules, met, bounds) for rules in worlds_of]
+    said = [said_of(asker, rules, met) for rules in worlds_of]
     found = []
-    for at, (pair, text, _, asks, sized) in enumerate(met):
+    for at, (pair, text, _, asks, sized, bound) in enumerate(met):
         goals = [tuple(world[at].get(ask, OPEN) for world in said) for ask in asks]
-        is_sized = not any(is_unsized(it, bounds[at].get(var, "")) for var in sized)
+        is_sized = not any(is_unsized(it, bound.terms.get(var, "")) for var in sized)
         comes = met_because(goals, all(is_whole(impl.lacks) for impl in pair)) if is_sized else BY_SIZED
         found.append(Judged(pair[0].place, f"{text}, of {pair[1].place}: {head(pair[0])}, {head(pair[1])}", comes))
     return found
 
 
-def said_of(asker, rules, met, bounds):
-    """Gives what is said of each bound of impls that meet, one after the other; again, where something was bound."""
-    proved, said, bound, left = [[] for _ in met], [{} for _ in met], list(bounds), range(len(met))
+def said_of(asker, rules, met):
+    """Gives what is said of each bound of impls that meet: of all at once, and again where one has bound a variable. Of one
+    of a variable nothing is asked, since an impl may always be its."""
+    bounds, said, left = [copy.deepcopy(it.bound) for it in met], [{} for _ in met], range(len(met))
     for _ in range(ROUNDS):
-        asked = [[ask for ask in met[at].asks if ask not in proved[at] and not is_open(ask, bound[at])] for at in left]
-        groups = [[met[at].asked, *map(then, proved[at] + some)] for at, some in zip(left, asked)]
+        asked = []
+        for at in left:
+            goals = [(ask, bounds[at].put(ask)) for ask in met[at].asks if said[at].get(ask) != "yes"]
+            asked.append([(ask, goal) for ask, goal in goals if not subject(goal).startswith("?")])
+        groups = [[f"prove {goal} at {BOUNDS_AT}" for _, goal in some] for some in asked]
         again = []
-        for at, some, answers in zip(left, asked, asker.ask(rules, groups)):
-            news = map(told, answers[len(answers) - len(some) :]) if answers else [LATE] * len(some)
-            said[at] |= zip(some, news)
-            yes = [ask for ask in some if said[at][ask] == "yes"]
-            proved[at] += yes
-            if yes and "no" not in said[at].values():
-                bound[at] = {**bound[at], **next((it for it in map(bindings, reversed(answers)) if it), {})}
+        for at, some, answers in zip(left, asked, asker.ask([DECLARED, *rules], groups)):
+            if note(bounds[at], said[at], some, answers):
                 again.append(at)
         left = again
     return said
 
 
-def then(ask):
-    return f"then prove {ask} at {BOUNDS_AT}"
+def note(bound, said, asked, answers):
+    """Notes what was said of bounds, up to the first that binds something: says whether more may be said of the others."""
+    for (ask, goal), answer in zip(asked, answers or [LATE] * len(asked)):
+        if bound.put(goal) != goal:
+            continue
+        said[ask] = told(answer)
+        if said[ask] == "no":
+            return False
+        if said[ask] == "yes":
+            bound.note(answer)
+    return any(bound.put(goal) != goal for _, goal in asked)
 
 
 def is_unsized(it, text):

@@ -172,6 +172,8 @@ def is_open(text, bound, seen=()):
 def expected(case, answers):
     alone, verdict = map(told, answers)
     by = ()
+    if asking.LATE in (alone, verdict):
+        return kinds.Expected(asking.LATE, (asking.LATE,))
     if verdict == AMBIGUOUS and alone == YES:
         verdict, by, answers = YES, (HIDES,), answers[:1]
     elif verdict == AMBIGUOUS and case.more[1]:
@@ -195,7 +197,7 @@ def observed(case, said):
 
 def agrees(expected, seen):
     allowed = {BOTH: (NO, DEEP)}.get(seen, (seen,))
-    return expected in allowed or expected == IF_FIRST and seen in (YES, NO, AMBIGUOUS)
+    return expected in (*allowed, asking.LATE) or expected == IF_FIRST and seen in (YES, NO, AMBIGUOUS)
 
 
 def smaller(case):
