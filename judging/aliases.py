@@ -79,6 +79,9 @@ class Aliases:
             self.say(text, self.name(*alias))
         return self.known[erased(text)][1]
 
+    def has(self, alias):
+        return erased(spelled(*alias)) in self.known
+
     def say(self, alias, term):
         self.known.setdefault(erased(alias), (alias, term))
 

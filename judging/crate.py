@@ -11,6 +11,7 @@ from judging.library import WORD, param_text, put
 # A trait: its place, parameters as (sort, name), its super-predicates, what it states of the types that traits declare,
 # and why it states more than that.
 Trait = collections.namedtuple("Trait", "place name params supers states lacks auto local")
+ELSEWHERE = "another crate"
 # An impl: its place, where it comes from, its parameters, its trait with arguments and the type; what it asks for, why
 # there is more, and which parameters may be unsized; what the types of its trait are, by their names, or why one is not
 # spelled. Where the head is not spelled `of` is nothing. For each type that a trait declares stands a parameter; `made`
@@ -197,7 +198,7 @@ class Crate:
     def speaks_of(self, impl, known):
         params = {name for _, name in impl.params}
         said = names_in(" ".join([impl.trait, impl.of or "", *impl.asks, *(ty for _, ty in impl.gives)]))
-        said -= params | KEYWORDS | {item for some in self.of.declared.values() for item in some}
+        said -= params | KEYWORDS
         return all(it in known or it.isdigit() for it in said)
 
     def library_traits(self):
@@ -205,14 +206,15 @@ class Crate:
         known = library.library()
         for name, params in known.traits.items():
             here = self.named.get(name, name)
-            params = [(sort, self.of.free_name(sort, it)) for sort, it, _ in params]
-            supers, states = ([put(it, self.named) for it in some[name]] for some in (known.supers, known.stated))
+            free = {it: self.of.free_name(sort, it) for sort, it, _ in params}
+            params, here_named = [(sort, free[it]) for sort, it, _ in params], {**self.named, **free}
+            supers, states = ([put(it, here_named) for it in some[name]] for some in (known.supers, known.stated))
             auto = name in known.autos
             self.traits.setdefault(here, Trait("the library", here, params, supers, states, [], auto, False))
         for id, name in self.of.names.items():
             if self.of.kind_of(id) == "trait" and name not in self.traits:
                 params = self.params_of(id)
-                self.traits[name] = Trait("another crate", name, params, [], [], [], False, False)
+                self.traits[name] = Trait(ELSEWHERE, name, params, [], [], [], False, False)
 
     def find_types(self, used):
         """Finds the types that are spoken of, with their parameters."""

@@ -1,10 +1,11 @@
 """What is known where bounds hold: they, what traits state beside, and of each type that their traits declare a name."""
 import re
 
-from judging.aliases import Aliases, comes_to, cut, name_for, spelled
+from judging.aliases import Aliases, comes_to, cut, erased, name_for, spelled
 from judging.asking import split_list
-from judging.crate import names_first
+from judging.crate import ELSEWHERE, names_first
 from judging.library import WORD, put
+from judging.worlds import asked_traits
 
 # How many aliases may stand in one: of `T`, of its types, and of theirs.
 MOST = 3
@@ -80,20 +81,44 @@ class Environment:
         known, supers, states = stated_of(self.crate.traits, clause)
         if known is None:
             return
-        if not re.fullmatch(r"\w+", of) or of in self.crate.types or self.depths.get(of, 0) >= MOST:
-            states = []
-        else:
+        items = self.crate.of.declared.get(known.name, ())
+        is_param = re.fullmatch(r"\w+", of) and of not in self.crate.types
+        if self.depths.get(of, 0) < MOST and (is_param or any(self.aliases.has((of, trait, it)) for it in items)):
             for it in states:
                 self.aliases.note(it)
-            for item in self.crate.of.declared.get(known.name, ()):
+            for item in items:
                 self.aliases.term((of, trait, item))
-        for it in [*supers, *states]:
+            supers = supers + states
+        for it in supers:
             self.add(it)
+
+    def open_in(self, impl):
+        """Gives the parameters of an impl that stand for aliases of which neither its bounds nor impls say anything."""
+        said = {erased(it) for it in self.clauses}
+        aliases = {name: [put(it, self.values) for it in alias] for name, alias in impl.made if self.values.get(name) == name}
+        return {name for name, (of, trait, _) in aliases.items() if erased(f"{of}: {trait}") not in said}
 
     def text(self):
         """Gives the statement that assumes all of it."""
-        said = [f"{alias} == {term}" for alias, term in self.aliases.said()]
-        return f"assume {', '.join(dict.fromkeys([*self.clauses, *said]))}" if self.clauses or said else "assume"
+        return assumed([*self.clauses, *self.said()])
+
+    def said(self):
+        return [f"{alias} == {term}" for alias, term in self.aliases.said()]
+
+    def text_perhaps(self):
+        """Gives one that assumes besides what traits of other crates may state that aren't described."""
+        clauses, asked = list(self.clauses), asked_traits(self.crate)
+        may = [it.name for it in self.crate.traits.values() if not it.local and not it.params and it.name in asked]
+        for it in self.clauses:
+            of, trait = cut(it, ": ")
+            known = self.crate.traits.get(names_first(trait))
+            if known is None or known.place == ELSEWHERE:
+                clauses += [f"{of}: {name}" for name in may]
+        return assumed([*clauses, *self.said()])
+
+
+def assumed(clauses):
+    return f"assume {', '.join(dict.fromkeys(clauses))}" if clauses else "assume"
 
 
 def goal_in(environment, impl, clause):

@@ -1,8 +1,8 @@
 """Judges what traits state: of each impl it has to hold where the impl's own bounds do."""
 from judging import worlds
-from judging.answering import HOLDS, LATE, UNSPELLED, WRONG, Judged, open_because
+from judging.answering import ELSEWHERE, HOLDS, LATE, UNSPELLED, WRONG, Judged, open_because
 from judging.asking import told
-from judging.crate import OWN, is_whole
+from judging.crate import OWN, is_whole, names_in
 from judging.environments import Environment, goal_in, stated_of
 from judging.turns import DECLARED, Bound
 
@@ -24,19 +24,27 @@ def judge_stated(it, asker):
     goals = [(impl, clause) for impl, clause in stated(it)]
     known = known_of(it, asker, {id(impl): impl for impl, _ in goals}.values())
     asked = [(known[id(impl)], goal_in(known[id(impl)], impl, clause)) for impl, clause in goals]
-    said = prove(asker, worlds.spelled(it), asked, DEPTH)
+    said = prove(asker, worlds.spelled(it), texts(asked), DEPTH)
     again = [at for at, (impl, _) in enumerate(goals) if said[at] != "yes" and is_spelled(impl)]
     some = [asked[at] for at in again]
-    more = [prove(asker, rules, some, MORE_DEPTH) for rules in (worlds.all_own(it), worlds.perhaps(it))]
-    more = dict(zip(again, zip(*more)))
+    by_own = prove(asker, worlds.all_own(it), texts(some), MORE_DEPTH)
+    some = [(environment.text_perhaps(), questions) for environment, questions in some]
+    more = dict(zip(again, zip(by_own, prove(asker, worlds.perhaps(it), some, MORE_DEPTH))))
     found = []
     for at, (impl, goal) in enumerate(goals):
         own, any_ = more.get(at, (LATE, LATE))
         comes = HOLDS if said[at] == "yes" else UNSPELLED
         if at in more:
-            comes = WRONG if any_ == "no" else open_because((said[at], own, any_), True)
+            environment, questions = asked[at]
+            comes = open_because((said[at], own, any_), True)
+            if any_ == "no":
+                comes = ELSEWHERE if environment.open_in(impl) & names_in(questions[-1]) else WRONG
         found.append(Judged(impl.place, f"{said[at]}: {goal}, as {impl.name} states", comes))
     return found
+
+
+def texts(asked):
+    return [(environment.text(), questions) for environment, questions in asked]
 
 
 def is_spelled(impl):
@@ -70,12 +78,12 @@ def behind(group):
 
 
 def prove(asker, rules, asked, depth):
-    """Gives what is said of goals: of each list what is said of the last, or of the first that doesn't hold."""
+    """Gives what is said of goals where something is assumed: of the last of each list, or the first that doesn't hold."""
     bounds, said = [Bound() for _ in asked], ["yes"] * len(asked)
     for turn in range(ROUNDS):
         now = [at for at, (_, goals) in enumerate(asked) if turn < len(goals) and said[at] == "yes"]
         goals = [bounds[at].put(asked[at][1][turn]) for at in now]
-        groups = [[asked[at][0].text(), f"prove {goal} at {depth}"] for at, goal in zip(now, goals)]
+        groups = [[asked[at][0], f"prove {goal} at {depth}"] for at, goal in zip(now, goals)]
         for at, some in zip(now, asker.ask([DECLARED, *rules], groups, behind)):
             said[at] = told(some[0]) if some else LATE
             bounds[at].note(some[0] if some else "")
