@@ -48,6 +48,7 @@ class Bounds:
     def say(self, clause):
         if clause not in self.clauses:
             self.clauses.append(clause)
+            self.scope.said.append(clause)
 
     def freeing(self, params):
         """Has regions that a binder binds stand for any: what is asked of each of them is asked of one."""

@@ -81,9 +81,10 @@ class Crate:
     def add_trait(self, id, item, it):
         name = self.of.name_of(id, item["name"])
         scope = Scope(self.of, it["generics"]["params"], "Self")
+        own = f"{name}<{', '.join(it for _, it in scope.params)}>" if scope.params else name
+        scope.said.append(f"Self: {own}")
         bounds, of_types = Bounds(scope), Bounds(scope)
         bounds.add_supers(it)
-        own = f"{name}<{', '.join(it for _, it in scope.params)}>" if scope.params else name
         for ty in self.types_of(item):
             if is_generic(ty):
                 bounds.lacks.append(described.GENERIC)
@@ -115,7 +116,12 @@ class Crate:
             of, trait = scope.me, scope.trait(it["trait"], scope.me)
         except Unspelled as why:
             of, trait = None, str(why)
+        scope.said.append(f"{of}: {trait}")
         bounds.add_generics(it["generics"])
+        if described.UNKNOWN in bounds.lacks:
+            # What was said of one bound may say what another one leaves out.
+            bounds = Bounds(scope)
+            bounds.add_generics(it["generics"])
         gives, unsaid = self.given(scope, name, item)
         made = Impl(
             self.of.place(item), origin, scope.params, name, trait, of, bounds.clauses, tuple(bounds.lacks),

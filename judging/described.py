@@ -130,27 +130,24 @@ class Described:
         return name
 
     def declarer(self, of, trait, item):
-        """Gives the trait that declares a type: one of which a type has it, or one that this states."""
-        return self.declarer_above(of, trait, item, set()) or self.note_declared(trait, item)
+        """Gives the trait that declares a type: one that a type has, or one that this states."""
+        return self.above(of, trait, lambda it: item in self.declared.get(it, ())) or self.note_declared(trait, item)
 
     def note_declared(self, trait, item):
         """Takes a type for one of a trait's own; of other crates' traits none is described."""
         self.declared.setdefault(cut(trait, "<")[0], []).append(item)
         return trait
 
-    def declarer_above(self, of, trait, item, seen):
+    def above(self, of, trait, is_it, seen=frozenset()):
+        """Gives the trait of which that is so: one that a type has, or one that this states; or nothing."""
         name = re.match(r"\w+", trait)[0]
-        if item in self.declared.get(name, ()):
+        if is_it(name):
             return trait
         params, stated = self.stated.get(name, ((), ()))
         values = dict(zip([it for _, it in params], split_list(trait[len(name) + 1 : -1])), Self=of)
-        for clause in stated if name not in seen else ():
-            who, what = cut(clause, ": ")
-            if who == "Self" and what:
-                found = self.declarer_above(of, put(what, values), item, seen | {name})
-                if found:
-                    return found
-        return None
+        supers = [cut(put(it, values), ": ") for it in stated if name not in seen]
+        found = (self.above(of, what, is_it, seen | {name}) for who, what in supers if who == of and what)
+        return next((it for it in found if it), None)
 
     def params_of(self, id):
         """Gives an item's parameters as (sort, name, default), or nothing where they are not described."""
@@ -194,6 +191,8 @@ class Scope:
 
     def __init__(self, described, params, me=None):
         self.of, self.names, self.params, self.me, self.made = described, {}, [], me, None
+        # The bounds that are known of what is in it.
+        self.said = []
         for it in params:
             self.declare(next(iter(it["kind"])), it["name"])
 
@@ -279,7 +278,7 @@ class Scope:
         """Spells what an alias of the crate's own stands for."""
         args = self.args(it)
         inner = Scope(self.of, [], self.me)
-        inner.params = self.params
+        inner.params, inner.said = self.params, self.said
         inner.names = dict(zip([p["name"] for p in alias["generics"]["params"]], args))
         return inner.ty(alias["type"])
 
@@ -289,7 +288,14 @@ class Scope:
         if angled(it["args"])["args"]:
             raise Unspelled(GENERIC)
         of = self.ty(it["self_type"])
-        return self.alias(of, self.trait(it["trait"], of), it["name"])
+        return self.alias(of, self.trait_said(it["trait"], of), it["name"])
+
+    def trait_said(self, it, of):
+        """Spells the trait of an alias; if its arguments are left out, as a bound has it."""
+        name = self.of.name_of(it["id"], it["path"])
+        traits = [] if it["args"] else [what for who, what in (cut(one, ": ") for one in self.said) if who == of and what]
+        found = (self.of.above(of, trait, lambda one: one == name) for trait in traits)
+        return next((trait for trait in found if trait), None) or self.trait(it, of)
 
     def alias(self, of, trait, item):
         """Spells a type that a trait declares."""

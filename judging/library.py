@@ -16,7 +16,7 @@ END = re.compile(r";(?![^\[\]]*\])")
 
 # Parameters as (sort, name, default), by the name of a type or a trait; the types that a trait declares; what a trait
 # states of what implements it, and of these types; impls.
-Library = collections.namedtuple("Library", "types unsized traits autos declared supers stated impls never")
+Library = collections.namedtuple("Library", "types unsized traits autos declared supers stated impls never outside")
 # What an impl has: parameters as (sort, name); its trait with arguments, the type, and bounds, each as text; what the
 # types of its trait are, by their names.
 Impl = collections.namedtuple("Impl", "params trait of asks gives")
@@ -84,7 +84,7 @@ def form_head(text):
 def library():
     """Gives the library, read once."""
     lists = [collections.defaultdict(list) for _ in range(3)]
-    found = Library({}, set(), {}, set(), *lists, [], set())
+    found = Library({}, set(), {}, set(), *lists, [], set(), set())
     with open(FILE, encoding="utf-8") as it:
         lines = [line for line in it.read().splitlines() if not line.startswith("//")]
     for text in END.split(" ".join(" ".join(lines).split())):
@@ -92,9 +92,10 @@ def library():
         kind, _, rest = text.partition(" ")
         if text.startswith("impl"):
             found.impls.extend(impls_of(text))
-        elif kind == "never":
+        elif kind in ("never", "outside"):
             traits, _, types = rest.partition(" for ")
-            found.never.update((trait, form_head(of)) for trait in split_list(traits) for of in split_list(types))
+            pairs = ((trait, form_head(of)) for trait in split_list(traits) for of in split_list(types))
+            getattr(found, kind).update(pairs)
         elif kind == "super":
             trait, _, stated = rest.partition(": ")
             found.supers[trait].extend(split_list(stated))

@@ -1,7 +1,7 @@
 """Rules for what a crate leaves open: what isn't spelled, and what other crates may have."""
 from judging import described
 from judging.aliases import closing, comes_to, cut
-from judging.crate import generic, impl_text, is_whole, names_first, numbered
+from judging.crate import ELSEWHERE, generic, impl_text, is_whole, names_first, numbered
 from judging.library import WORD, form_head, library
 
 
@@ -35,14 +35,25 @@ def types_of(crate, trait):
     return crate.of.declared.get(trait, ())
 
 
-def rule(crate, trait, of, params):
-    """Gives an impl of a trait for a type, whatever the trait is over, and whatever its types are."""
+def rule(crate, trait, of, params, outside=False):
+    """Gives an impl of a trait for a type, whatever its types are, and whatever it is over, or only types of others."""
     own = [(sort, numbered(sort, at, ("'y", "Y", "M"))) for at, (sort, _) in enumerate(trait.params)]
     args = f"<{', '.join(name for _, name in own)}>" if own else ""
     gives = [(item, f"Z{at}") for at, item in enumerate(types_of(crate, trait.name))]
     given = f" {{ {', '.join(' = '.join(it) for it in gives)} }}" if gives else ""
     params = [*params, *own, *(("type", name) for _, name in gives)]
-    return f"impl{generic(params)} {trait.name}{args} for {of}{given};"
+    asks = where(own) if outside else ""
+    return f"impl{generic(params)} {trait.name}{args} for {of}{given}{asks};"
+
+
+def where(params):
+    """Asks of parameters that they are types of other crates."""
+    asks = [f"{name}: {OUTSIDE}" for sort, name in params if sort == "type"]
+    return f" where {', '.join(asks)}" if asks else ""
+
+
+# The trait of types in which there is none of the crate's own.
+OUTSIDE = "types_of_others"
 
 
 def perhaps(crate):
@@ -51,23 +62,28 @@ def perhaps(crate):
     Where the text of the library has no such trait, it may be of all types, and so parameters have it too. A trait
     object has the traits that it names.
     """
-    rules = all_own(crate)
-    asked = asked_traits(crate)
     forms = foreign_forms(crate)
     of_params = [name for name, sort in crate.of.sorts.items() if sort == "type"]
-    known = {crate.named.get(it, it): it for it in library().traits}
-    never = {crate.named.get(it, it): it for it in library().types}
+    rules = [f"trait {OUTSIDE};", *all_own(crate), *(f"impl {OUTSIDE} for {it};" for it in of_params)]
+    rules += [f"impl{generic(params)} {OUTSIDE} for {of}{where(params)};" for of, params in forms]
+    asked = asked_traits(crate)
     for it in crate.traits.values():
-        if it.name not in asked:
-            continue
-        for of, params in forms:
-            form = form_head(of)
-            is_never = (known.get(it.name), never.get(form, form)) in library().never
-            if of.startswith("(dyn ") or not it.local and not is_never:
-                rules.append(rule(crate, it, of, params))
-        if not it.local and it.name not in known:
-            rules += [rule(crate, it, of, []) for of in of_params]
+        if it.name in asked:
+            rules += [rule(crate, it, of, params, is_outside) for of, params, is_outside in perhaps_for(crate, it, forms)]
+            if not it.local and it.place == ELSEWHERE:
+                rules += [rule(crate, it, of, []) for of in of_params]
     return list(dict.fromkeys(rules))
+
+
+def perhaps_for(crate, trait, forms):
+    """Gives the forms of types that may have a trait, and whether only over types of other crates."""
+    known = {crate.named.get(it, it): it for it in library().traits}
+    types = {crate.named.get(it, it): it for it in library().types}
+    for of, params in forms:
+        form = form_head(of)
+        pair = (known.get(trait.name), types.get(form, form))
+        if of.startswith("(dyn ") or not trait.local and pair not in library().never:
+            yield of, params, pair in library().outside
 
 
 def asked_traits(crate):
