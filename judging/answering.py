@@ -7,7 +7,7 @@ import subprocess
 from judging import asking, crate, worlds
 
 # How many seconds of the processor the program has; a question that takes as long is given up on.
-SECONDS = 10
+SECONDS = 4
 
 PAIRS, STATED = "pairs of impls", "clauses that traits state"
 # What comes of a pair of impls, or of what a trait states.

@@ -187,15 +187,17 @@ class Crate:
             if it.local:
                 text += [it.name, *it.supers, *it.states]
         self.library_traits()
-        while text:
-            new = set().union(*map(names_in, text)) - used
+        while new := set().union(*map(names_in, text)) - used:
             used |= new
             told = [self.traits[it] for it in new if it in self.traits]
             text = [clause for it in told for clause in (*it.supers, *it.states)]
             text += [self.traits[it].name for it in new if it in self.traits]
             for it in self.impls:
-                if it.of and it.name in new and it.origin == OTHER and is_blanket(it):
-                    text += [it.trait, *it.asks, *(ty for _, ty in it.gives)]
+                if it.of and it.origin == OTHER and it.name in used:
+                    if it.name in new and is_blanket(it):
+                        text += [it.trait, *it.asks, *(ty for _, ty in it.gives)]
+                    elif self.speaks_of(it._replace(gives=()), used):
+                        text += [ty for _, ty in it.gives]
         self.find_types(used)
         self.traits = {name: it for name, it in self.traits.items() if name in used or it.local}
         known = {*self.types, *self.traits, *(used & described.PLAIN)}

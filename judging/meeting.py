@@ -13,7 +13,7 @@ from judging.library import library, put
 from judging.turns import DECLARED, Bound
 
 # How deep goals are looked into, in which variables stand; how often more is asked once something was bound.
-BOUNDS_AT, ROUNDS = 3, 4
+BOUNDS_AT, ROUNDS = 4, 4
 
 # Two impls whose headers meet: what was said of them; a question that makes them one, what both ask for, the variables
 # that are sized, and what variables come to.
