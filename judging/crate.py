@@ -225,10 +225,11 @@ class Crate:
                 self.traits[name] = Trait(ELSEWHERE, name, params, [], [], [], False, False)
 
     def find_types(self, used):
-        """Finds the types that are spoken of, with their parameters."""
+        """Finds the crate's own types and those that are spoken of, with their parameters."""
         known = library.library().types
         here = {self.named.get(name, name): params for name, params in known.items()}
-        for name in sorted(used):
+        own = {name for name, id in self.ids.items() if id in self.of.index and self.of.is_local(id)}
+        for name in sorted(used | own):
             id = self.ids.get(name)
             if name in here:
                 self.types[name] = [(sort, self.of.free_name(sort, it)) for sort, it, _ in here[name]]
@@ -312,29 +313,27 @@ def declarations(crate):
 
 
 def statements(crate):
-    """Gives the statements of a crate, with a comment for what is left out, and how often it was, by reasons."""
-    lines, missing = declarations(crate), collections.Counter()
+    """Gives the statements of a crate, with a comment for what is left out, and how often it was, by reasons. Each impl has
+    its number beside it, by which answers name it, and its place."""
+    lines, missing, number = declarations(crate), collections.Counter(), 0
 
-    def add(text, what, lacks, place):
+    def left_out(what, lacks, place):
         missing.update(dict.fromkeys(lacks, 1))
-        left = f"{what}: {' and '.join(dict.fromkeys(lacks))}, {place}"
-        lines.append(f"{text}; // {left}" if text else f"// {left}")
+        return f"{what}: {' and '.join(dict.fromkeys(lacks))}, {place}"
 
     for it in crate.traits.values():
         if it.states:
-            add("", f"{it.name} states {', '.join(it.states)}", [described.OF_ALIAS], it.place)
+            lines.append("// " + left_out(f"{it.name} states {', '.join(it.states)}", [described.OF_ALIAS], it.place))
         if it.lacks:
-            add("", f"super {it.name}", it.lacks, it.place)
+            lines.append("// " + left_out(f"super {it.name}", it.lacks, it.place))
     for it in sorted(crate.impls, key=lambda it: it.origin == OTHER):
         lacks = [*it.lacks, *(why for _, why in it.unsaid)]
-        if not it.of:
-            add("", f"impl {it.name}", [it.trait], it.place)
-        elif not lacks:
-            lines.append(f"{impl_text(it)};")
-        elif is_whole(it.lacks):
-            add(impl_text(it), "beside", lacks, it.place)
-        else:
-            add("", impl_text(it), lacks, it.place)
+        if not it.of or not is_whole(it.lacks):
+            lines.append("// " + left_out(impl_text(it) if it.of else f"impl {it.name}", lacks if it.of else [it.trait], it.place))
+            continue
+        number += 1
+        beside = left_out("; beside", lacks, it.place) if lacks else f", {it.place}"
+        lines.append(f"{impl_text(it)}; // {number}{beside}")
     return lines, missing
 
 
