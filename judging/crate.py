@@ -123,10 +123,9 @@ class Crate:
             bounds = Bounds(scope)
             bounds.add_generics(it["generics"])
         gives, unsaid = self.given(scope, name, item)
-        made = Impl(
-            self.of.place(item), origin, scope.params, name, trait, of, bounds.clauses, tuple(bounds.lacks),
-            frozenset(bounds.unsized), gives, unsaid, (),
-        )
+        place, lacks, unsized = self.of.place(item), tuple(bounds.lacks), frozenset(bounds.unsized)
+        params, asks = scope.params, bounds.clauses
+        made = Impl(place, origin, params, name, trait, of, asks, lacks, unsized, gives, unsaid, ())
         self.impls.append(self.with_params(made))
 
     def given(self, scope, name, item):
@@ -281,8 +280,8 @@ def is_plain(clause):
 
 
 def in_order(asks, unknown):
-    """Gives what is asked for in such an order that parameters are known before something is asked of them: an alias makes
-    them known, and so does a trait's bound, if nothing else does."""
+    """Gives what is asked for in such an order that parameters are known before something is asked of them: an alias
+    makes them known, and so does a trait's bound, if nothing else does."""
     found, left, unknown = [], list(asks), set(unknown)
     while left:
         ready = (it for of in (given_of, subject) for it in left if not names_in(of(it)) & unknown)
@@ -313,8 +312,8 @@ def declarations(crate):
 
 
 def statements(crate):
-    """Gives the statements of a crate, with a comment for what is left out, and how often it was, by reasons. Each impl has
-    its number beside it, by which answers name it, and its place."""
+    """Gives the statements of a crate, with a comment for what is left out, and how often it was, by reasons. Each impl
+    has its number beside it, by which answers name it, and its place."""
     lines, missing, number = declarations(crate), collections.Counter(), 0
 
     def left_out(what, lacks, place):
@@ -329,7 +328,8 @@ def statements(crate):
     for it in sorted(crate.impls, key=lambda it: it.origin == OTHER):
         lacks = [*it.lacks, *(why for _, why in it.unsaid)]
         if not it.of or not is_whole(it.lacks):
-            lines.append("// " + left_out(impl_text(it) if it.of else f"impl {it.name}", lacks if it.of else [it.trait], it.place))
+            what, lacks = (impl_text(it), lacks) if it.of else (f"impl {it.name}", [it.trait])
+            lines.append("// " + left_out(what, lacks, it.place))
             continue
         number += 1
         beside = left_out("; beside", lacks, it.place) if lacks else f", {it.place}"

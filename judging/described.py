@@ -293,7 +293,8 @@ class Scope:
     def trait_said(self, it, of):
         """Spells the trait of an alias; if its arguments are left out, as a bound has it."""
         name = self.of.name_of(it["id"], it["path"])
-        traits = [] if it["args"] else [what for who, what in (cut(one, ": ") for one in self.said) if who == of and what]
+        said = [] if it["args"] else [cut(one, ": ") for one in self.said]
+        traits = [what for who, what in said if who == of and what]
         found = (self.of.above(of, trait, lambda one: one == name) for trait in traits)
         return next((trait for trait in found if trait), None) or self.trait(it, of)
 

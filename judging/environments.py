@@ -1,4 +1,4 @@
-"""What is known where bounds hold: they, what traits state beside, and of each type that their traits declare a name."""
+"""What is known where bounds hold: they, what traits state beside, and a name of each type that their traits declare."""
 import re
 
 from judging.aliases import Aliases, comes_to, cut, erased, name_for, spelled
@@ -27,12 +27,13 @@ def stated_of(traits, clause):
 
 
 class Environment:
-    """Bounds of a crate, with all that they imply: each alias of a parameter is a parameter of its own, if no bound says
-    to what it comes."""
+    """Bounds of a crate, with all that they imply: each alias of a parameter is a parameter of its own, if no bound
+    says to what it comes."""
 
     def __init__(self, crate, impl, values):
-        """Takes the bounds of an impl, and what some of the parameters come to that stand for aliases. The others that may
-        come to something by impls are left out, with what is asked of them: they are `unknown`, each with its alias."""
+        """Takes the bounds of an impl, and what some of the parameters come to that stand for aliases. The others that
+        may come to something by impls are left out, with what is asked of them: they are `unknown`, with their aliases.
+        """
         self.crate, self.clauses, self.made, self.depths = crate, [], set(), {}
         self.values, self.unknown = values, []
         params = {name for _, name in impl.params} - {name for name, _ in impl.made}
@@ -95,8 +96,9 @@ class Environment:
     def open_in(self, impl):
         """Gives the parameters of an impl that stand for aliases of which neither its bounds nor impls say anything."""
         said = {erased(it) for it in self.clauses}
-        aliases = {name: [put(it, self.values) for it in alias] for name, alias in impl.made if self.values.get(name) == name}
-        return {name for name, (of, trait, _) in aliases.items() if erased(f"{of}: {trait}") not in said}
+        left = [(name, [put(it, self.values) for it in alias]) for name, alias in impl.made]
+        left = [(name, erased(f"{of}: {trait}")) for name, (of, trait, _) in left if self.values.get(name) == name]
+        return {name for name, clause in left if clause not in said}
 
     def text(self):
         """Gives the statement that assumes all of it."""
@@ -122,7 +124,7 @@ def assumed(clauses):
 
 
 def goal_in(environment, impl, clause):
-    """Gives goals: what each alias of a clause comes to, of which nothing is known, and last the clause, over variables."""
+    """Gives goals: what each alias of a clause comes to of which nothing is known, and last the clause, over variables."""
     asked = []
 
     def variable(*alias):

@@ -66,8 +66,8 @@ def opened(pair, said):
 
 
 def judge_met(it, asker, met):
-    """Asks of impls whose headers meet whether a bound of theirs tells them apart: by what is spelled, by all impls, and by
-    any beside."""
+    """Asks of impls whose headers meet whether a bound of theirs tells them apart: by what is spelled, by all impls, and
+    by any beside."""
     for one, some in zip(met, asker.ask([DECLARED], [[one.asked] for one in met])):
         one.bound.note(some[0] if some else "")
     worlds_of = (worlds.spelled(it), worlds.all_own(it), worlds.perhaps(it))
@@ -82,8 +82,8 @@ def judge_met(it, asker, met):
 
 
 def said_of(asker, rules, met):
-    """Gives what is said of each bound of impls that meet: of all at once, and again where one has bound a variable. Of one
-    of a variable nothing is asked, since an impl may always be its."""
+    """Gives what is said of each bound of impls that meet: of all at once, and again where one has bound a variable.
+    Of one of a variable nothing is asked, since an impl may always be its."""
     bounds, said, left = [copy.deepcopy(it.bound) for it in met], [{} for _ in met], range(len(met))
     for _ in range(ROUNDS):
         asked = []
@@ -100,7 +100,7 @@ def said_of(asker, rules, met):
 
 
 def note(bound, said, asked, answers):
-    """Notes what was said of bounds, up to the first that binds something: says whether more may be said of the others."""
+    """Notes what was said of bounds that no answer changes: says whether more may be said of the others."""
     for (ask, goal), answer in zip(asked, answers or [LATE] * len(asked)):
         if bound.put(goal) != goal:
             continue

@@ -20,7 +20,7 @@ def stated(it):
 
 
 def judge_stated(it, asker):
-    """Asks by what is spelled; what does not hold so, by more impls, if all is spelled that the impl itself asks for."""
+    """Asks by what is spelled; what doesn't hold so, by more impls, if all is spelled that the impl itself asks for."""
     goals = [(impl, clause) for impl, clause in stated(it)]
     known = known_of(it, asker, {id(impl): impl for impl, _ in goals}.values())
     asked = [(known[id(impl)], goal_in(known[id(impl)], impl, clause)) for impl, clause in goals]
@@ -78,7 +78,7 @@ def behind(group):
 
 
 def prove(asker, rules, asked, depth):
-    """Gives what is said of goals where something is assumed: of the last of each list, or the first that doesn't hold."""
+    """Gives what is said of goals where something is assumed: of the last of each list, or the first that isn't so."""
     bounds, said = [Bound() for _ in asked], ["yes"] * len(asked)
     for turn in range(ROUNDS):
         now = [at for at, (_, goals) in enumerate(asked) if turn < len(goals) and said[at] == "yes"]

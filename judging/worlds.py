@@ -17,14 +17,14 @@ def spelled(crate):
 
 
 def all_own(crate):
-    """Gives beside the others as far as they are spelled, and all types for what isn't: an impl's head, or a type of its
-    trait."""
+    """Gives beside the others as far as they are spelled, and all types for what isn't: an impl's head, or a type of
+    its trait."""
     rules = []
     for it in crate.impls:
         if it.of and (it.unsaid or not is_whole(it.lacks)):
-            free = [(item, f"Z{at}") for at, (item, _) in enumerate(it.unsaid)]
+            free = [(item, f"Z{at}") for at, (item, _) in enumerate(it.unsaid) if item in types_of(crate, it.name)]
             params = (*it.params, *(("type", name) for _, name in free))
-            it = it._replace(params=params, gives=(*it.gives, *(one for one in free if one[0] in types_of(crate, it.name))))
+            it = it._replace(params=params, gives=(*it.gives, *free))
         if it.of:
             rules.append(f"{impl_text(it)};")
     headless = {it.name for it in crate.impls if not it.of and it.trait != described.NEGATIVE}
@@ -69,7 +69,7 @@ def perhaps(crate):
     asked = asked_traits(crate)
     for it in crate.traits.values():
         if it.name in asked:
-            rules += [rule(crate, it, of, params, is_outside) for of, params, is_outside in perhaps_for(crate, it, forms)]
+            rules += [rule(crate, it, *form) for form in perhaps_for(crate, it, forms)]
             if not it.local and it.place == ELSEWHERE:
                 rules += [rule(crate, it, of, []) for of in of_params]
     return list(dict.fromkeys(rules))
