@@ -1,4 +1,4 @@
-"""What is known where bounds hold: they, what traits state beside, and a name of each type that their traits declare."""
+"""What is known where bounds hold: they, what traits state beside, and a name for each type that a trait declares."""
 import re
 
 from judging.aliases import Aliases, comes_to, cut, erased, name_for, spelled
@@ -124,7 +124,7 @@ def assumed(clauses):
 
 
 def goal_in(environment, impl, clause):
-    """Gives goals: what each alias of a clause comes to of which nothing is known, and last the clause, over variables."""
+    """Gives goals: to what each alias of a clause comes of which nothing is known, and last the clause itself."""
     asked = []
 
     def variable(*alias):

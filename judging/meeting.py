@@ -66,8 +66,8 @@ def opened(pair, said):
 
 
 def judge_met(it, asker, met):
-    """Asks of impls whose headers meet whether a bound of theirs tells them apart: by what is spelled, by all impls, and
-    by any beside."""
+    """Asks of impls whose headers meet whether a bound tells them apart: by what is spelled, by all impls, and by any
+    beside."""
     for one, some in zip(met, asker.ask([DECLARED], [[one.asked] for one in met])):
         one.bound.note(some[0] if some else "")
     worlds_of = (worlds.spelled(it), worlds.all_own(it), worlds.perhaps(it))
