@@ -8,6 +8,8 @@ from judging.terms import ask_prelude
 # A file may be of 1 MiB.
 MOST_BYTES = 900_000
 SECONDS = 120
+# What stands for the answers of a text that took too long, where each has few questions.
+LATE = "late"
 
 # What an answer says: `ok`, `err` and its error, `meets` or another first word; constraints of regions, and bindings.
 Answer = collections.namedtuple("Answer", "text said regions bound")
@@ -18,7 +20,11 @@ class Wrong(Exception):
 
 
 def run(program, text):
-    ran = subprocess.run([program, "-"], input=text, capture_output=True, text=True, timeout=SECONDS)
+    """Gives the lines that the program prints, or nothing where it takes too long."""
+    try:
+        ran = subprocess.run([program, "-"], input=text, capture_output=True, text=True, timeout=SECONDS)
+    except subprocess.TimeoutExpired:
+        return None
     if ran.returncode != 0:
         raise Wrong(f"{program} has status {ran.returncode}: {ran.stderr.strip()[:500]}")
     return ran.stdout.splitlines()
@@ -41,8 +47,10 @@ def ask_all(program, questions, most=None):
     answers = []
     for batch in batches(questions, most):
         printed = run(program, ask_prelude() + "".join(f"{it};\n" for it in batch))
-        if len(printed) != len(batch):
-            raise Wrong(f"{program} answers {len(printed)} of {len(batch)} questions")
+        if printed is None and most:
+            printed = [LATE] * len(batch)
+        if printed is None or len(printed) != len(batch):
+            raise Wrong(f"{program} answers {len(printed or [])} of {len(batch)} questions")
         answers += map(read, printed)
     return answers
 
@@ -57,6 +65,18 @@ def split_list(text):
             found.append(text[begin:at].strip())
             begin = at + 1
     return [*found, text[begin:].strip()] if text.strip() else []
+
+
+def told(text):
+    """Gives the verdict of an answer, without what it names beside."""
+    verdict = re.match(r"(yes|no)(?= by |: |; |$)", text)
+    return verdict[1] if verdict else text.split("; ")[0]
+
+
+def bindings(text):
+    """Gives what an answer says that variables are bound to."""
+    bound = re.search(r"; bound=\[(.*)\]", text)
+    return dict(it.split("=", 1) for it in split_list(bound[1])) if bound else {}
 
 
 def read(text):

@@ -25,17 +25,36 @@ class Bounds:
         try:
             if modifier != "none":
                 raise Unspelled(described.CONST)
-            if bound["generic_params"]:
-                raise Unspelled(described.BINDER)
             if path["path"].split("::")[-1] in ("Sized", "MetaSized", "PointeeSized"):
                 raise Unspelled(described.SIZED)
-            clause = f"{of}: {self.scope.trait(path, of)}"
-            if clause not in self.clauses:
-                self.clauses.append(clause)
-            if angled(path["args"])["constraints"]:
-                raise Unspelled(described.DECLARED)
+            with self.freeing(bound["generic_params"]):
+                before = len(self.scope.params)
+                trait = self.scope.trait(path, of)
+                self.say(f"{of}: {trait}")
+                for item, said in self.scope.constraints(path):
+                    self.add_constraint(self.scope.alias(of, trait, item), said)
+                if "parenthesized" in (path["args"] or {}) and len(self.scope.params) > before:
+                    self.lacks.append(described.BINDER)
         except Unspelled as why:
             self.lacks.append(str(why))
+
+    def add_constraint(self, alias, said):
+        """Adds what is said of a type that a trait declares: bounds, or to what it comes."""
+        if isinstance(said, list):
+            self.add(alias, said)
+        else:
+            self.say(f"{alias} == {self.scope.ty(said)}")
+
+    def say(self, clause):
+        if clause not in self.clauses:
+            self.clauses.append(clause)
+            self.scope.said.append(clause)
+
+    def freeing(self, params):
+        """Has regions that a binder binds stand for any: what is asked of each of them is asked of one."""
+        if params:
+            self.lacks.append(described.BINDER)
+        return self.scope.freeing(params)
 
     def add_generics(self, generics):
         """Adds the bounds of an item's parameters, and its where-clauses."""
@@ -49,16 +68,18 @@ class Bounds:
             self.add_predicate(it)
 
     def add_predicate(self, it):
-        bound = it.get("bound_predicate")
-        if bound is None:
-            self.lacks.append(described.DECLARED if "eq_predicate" in it else described.OUTLIVES)
-        elif bound["generic_params"]:
-            self.lacks.append(described.BINDER)
-        else:
-            try:
-                self.add(self.scope.ty(bound["type"]), bound["bounds"])
-            except Unspelled as why:
-                self.lacks.append(str(why))
+        kind, said = next(iter(it.items()))
+        if kind == "lifetime_predicate":
+            self.lacks.append(described.OUTLIVES)
+            return
+        try:
+            if kind == "eq_predicate":
+                self.say(f"{self.scope.ty(said['lhs'])} == {self.scope.ty(said['rhs']['type'])}")
+            else:
+                with self.freeing(said["generic_params"]):
+                    self.add(self.scope.ty(said["type"]), said["bounds"])
+        except Unspelled as why:
+            self.lacks.append(str(why))
 
     def add_supers(self, trait):
         """Adds what a trait states of what implements it."""

@@ -3,15 +3,20 @@ import collections
 import re
 
 from judging import described, library
+from judging.aliases import Aliases, begins, comes_to, cut, name_for, spelled
 from judging.bounds import Bounds
 from judging.described import Described, Scope, Unspelled
 from judging.library import WORD, param_text, put
 
-# A trait: its place, parameters as (sort, name), what it states, and why it states more than that.
-Trait = collections.namedtuple("Trait", "place name params supers lacks auto local")
+# A trait: its place, parameters as (sort, name), its super-predicates, what it states of the types that traits declare,
+# and why it states more than that.
+Trait = collections.namedtuple("Trait", "place name params supers states lacks auto local")
+ELSEWHERE = "another crate"
 # An impl: its place, where it comes from, its parameters, its trait with arguments and the type; what it asks for, why
-# there is more, and which parameters may be unsized. Where the head is not spelled `of` is nothing.
-Impl = collections.namedtuple("Impl", "place origin params name trait of asks lacks unsized")
+# there is more, and which parameters may be unsized; what the types of its trait are, by their names, or why one is not
+# spelled. Where the head is not spelled `of` is nothing. For each type that a trait declares stands a parameter; `made`
+# has these, each with what it stands for, and asks for that.
+Impl = collections.namedtuple("Impl", "place origin params name trait of asks lacks unsized gives unsaid made")
 # Of whom an impl is: of the crate, of the compiler's for auto traits, of another crate.
 OWN, AUTO, OTHER = "own", "auto", "other"
 
@@ -25,7 +30,8 @@ def head(impl):
 
 
 def impl_text(impl):
-    return head(impl) + (f" where {', '.join(impl.asks)}" if impl.asks else "")
+    gives = f" {{ {', '.join(' = '.join(it) for it in impl.gives)} }}" if impl.gives else ""
+    return head(impl) + gives + (f" where {', '.join(impl.asks)}" if impl.asks else "")
 
 
 def names_in(text):
@@ -37,34 +43,59 @@ class Crate:
 
     def __init__(self, file):
         self.of = Described(file)
-        # What is seen of other crates' items counts from the start: all is read twice.
-        for _ in range(2):
+        # What is seen of other crates' items counts from the start, and so does what traits state: all is read thrice.
+        for _ in range(3):
             self.traits, self.impls = {}, []
             self.of.sorts.clear()
+            self.declare_types()
             for id, item in sorted(self.of.index.items(), key=lambda it: int(it[0])):
                 kind, it = next(iter(item["inner"].items()))
                 if kind == "trait":
                     self.add_trait(id, item, it)
                 elif kind == "impl" and it["trait"]:
                     self.add_impl(item, it)
+            self.of.stated = {name: (it.params, it.supers) for name, it in self.traits.items()}
         self.impls = list({it[1:] if it.origin == OTHER else it: it for it in self.impls}.values())
         self.named = self.of.library_names()
         self.ids = {name: id for id, name in self.of.names.items()}
         self.impls += [self.renamed(it) for it in library.library().impls]
         self.reach()
 
+    def declare_types(self):
+        """Finds which types each trait declares, as far as traits are known, and what those of the library state."""
+        here, known = self.of.library_names(), library.library()
+        self.of.declared = {here.get(it, it): list(some) for it, some in known.declared.items()}
+        for id, item in self.of.index.items():
+            if "trait" in item["inner"]:
+                name = self.of.name_of(id, item["name"])
+                self.of.declared[name] = [it["name"] for it in self.types_of(item) if not is_generic(it)]
+        for name, params in known.traits.items():
+            stated = [put(it, here) for it in known.supers[name]]
+            self.of.stated.setdefault(here.get(name, name), ([it[:2] for it in params], stated))
+
+    def types_of(self, item):
+        """Gives the types that a trait declares or an impl gives."""
+        found = [self.of.index.get(str(it)) for it in next(iter(item["inner"].values()))["items"]]
+        return [it for it in found if it and "assoc_type" in it["inner"]]
+
     def add_trait(self, id, item, it):
-        scope = Scope(self.of, it["generics"]["params"], "Self")
-        bounds = Bounds(scope)
-        bounds.add_supers(it)
         name = self.of.name_of(id, item["name"])
-        for sub in it["items"]:
-            of = self.of.index.get(str(sub))
-            if of and of["inner"].get("assoc_type", {}).get("bounds"):
-                bounds.lacks.append(described.OF_ALIAS)
-        local = item["crate_id"] == self.of.crate
-        place = self.of.place(item)
-        self.traits[name] = Trait(place, name, scope.params, bounds.clauses, bounds.lacks, it["is_auto"], local)
+        scope = Scope(self.of, it["generics"]["params"], "Self")
+        own = f"{name}<{', '.join(it for _, it in scope.params)}>" if scope.params else name
+        scope.said.append(f"Self: {own}")
+        bounds, of_types = Bounds(scope), Bounds(scope)
+        bounds.add_supers(it)
+        for ty in self.types_of(item):
+            if is_generic(ty):
+                bounds.lacks.append(described.GENERIC)
+            else:
+                of_types.add(spelled("Self", own, ty["name"]), ty["inner"]["assoc_type"]["bounds"])
+        supers = [it for it in bounds.clauses if is_plain(it)]
+        states = [it for it in bounds.clauses if not is_plain(it)] + of_types.clauses
+        lacks, local = bounds.lacks + of_types.lacks, item["crate_id"] == self.of.crate
+        params = it["generics"]["params"]
+        params = scope.params[: len(params)]
+        self.traits[name] = Trait(self.of.place(item), name, params, supers, states, lacks, it["is_auto"], local)
 
     def add_impl(self, item, it):
         """Adds an impl; one of another crate for all types of a bound stands as often as there are types."""
@@ -85,38 +116,87 @@ class Crate:
             of, trait = scope.me, scope.trait(it["trait"], scope.me)
         except Unspelled as why:
             of, trait = None, str(why)
+        scope.said.append(f"{of}: {trait}")
         bounds.add_generics(it["generics"])
-        place, asks, lacks = self.of.place(item), tuple(bounds.clauses), tuple(bounds.lacks)
-        unsized = frozenset(bounds.unsized)
-        self.impls.append(Impl(place, origin, tuple(scope.params), name, trait, of, asks, lacks, unsized))
+        if described.UNKNOWN in bounds.lacks:
+            # What was said of one bound may say what another one leaves out.
+            bounds = Bounds(scope)
+            bounds.add_generics(it["generics"])
+        gives, unsaid = self.given(scope, name, item)
+        place, lacks, unsized = self.of.place(item), tuple(bounds.lacks), frozenset(bounds.unsized)
+        params, asks = scope.params, bounds.clauses
+        made = Impl(place, origin, params, name, trait, of, asks, lacks, unsized, gives, unsaid, ())
+        self.impls.append(self.with_params(made))
+
+    def given(self, scope, name, item):
+        """Gives what an impl says that its trait's types are, and why some aren't spelled."""
+        gives, unsaid = [], []
+        for it in self.types_of(item):
+            try:
+                if is_generic(it):
+                    raise Unspelled(described.GENERIC)
+                if it["name"] not in self.of.declared.setdefault(name, []):
+                    self.of.declared[name].append(it["name"])
+                gives.append((it["name"], scope.ty(it["inner"]["assoc_type"]["type"])))
+            except Unspelled as why:
+                unsaid.append((it["name"], str(why)))
+        return gives, tuple(unsaid)
+
+    def with_params(self, impl):
+        """Puts a parameter for each type that a trait declares, and asks that it is that type."""
+        params, made, gives = list(impl.params), {}, dict(impl.gives)
+
+        def name(*alias):
+            of, trait, item = alias
+            if (of, trait) == own and item in gives:
+                return aliases.put(gives[item])
+            params.append(("type", self.of.free_name("type", name_for(of, item, [it for _, it in params]))))
+            made[params[-1][1]] = alias
+            return params[-1][1]
+
+        own, aliases = None, Aliases(name)
+        for ask in impl.asks:
+            aliases.note(ask)
+        of, trait = (aliases.put(it) if impl.of else it for it in (impl.of, impl.trait))
+        own = (of, trait)
+        asks = [aliases.clause(it) for it in impl.asks]
+        gives = {item: aliases.put(ty) for item, ty in gives.items()}
+        said = [f"{spelled(*alias)} == {name}" for name, alias in made.items()]
+        unknown = {it for _, it in params} - names_in(f"{trait} {of}")
+        asks, gives = tuple(in_order(dict.fromkeys([*asks, *said]), unknown)), tuple(gives.items())
+        return impl._replace(params=tuple(params), of=of, trait=trait, asks=asks, gives=gives, made=tuple(made.items()))
 
     def renamed(self, it):
         """Gives an impl of the library as this crate names what is in it."""
         values = {name: self.of.free_name(sort, name) for sort, name in it.params}
         values = {**self.named, **values}
         params = tuple((sort, values[name]) for sort, name in it.params)
-        asks = tuple(put(ask, values) for ask in it.asks)
-        trait = put(it.trait, values)
-        return Impl("the library", OTHER, params, names_first(trait), trait, put(it.of, values), asks, (), frozenset())
+        asks, gives = [put(ask, values) for ask in it.asks], [(item, put(ty, values)) for item, ty in it.gives]
+        of, trait = put(it.of, values), put(it.trait, values)
+        made = Impl("the library", OTHER, params, names_first(trait), trait, of, asks, (), frozenset(), gives, (), ())
+        return self.with_params(made)
 
     def reach(self):
         """Finds which traits and types are spoken of, and leaves out the impls of all others."""
         self.types, used, text = {}, set(), []
         own = [it for it in self.impls if it.origin == OWN]
         for it in own:
-            text += [it.name, *it.asks, *([it.trait, it.of] if it.of else [])]
+            text += [it.name, *it.asks, *([it.trait, it.of] if it.of else []), *(ty for _, ty in it.gives)]
         for it in self.traits.values():
             if it.local:
-                text += [it.name, *it.supers]
+                text += [it.name, *it.supers, *it.states]
         self.library_traits()
-        while text:
-            new = set().union(*map(names_in, text)) - used
+        while new := set().union(*map(names_in, text)) - used:
             used |= new
-            text = [clause for it in new if it in self.traits for clause in self.traits[it].supers]
+            told = [self.traits[it] for it in new if it in self.traits]
+            text = [clause for it in told for clause in (*it.supers, *it.states)]
             text += [self.traits[it].name for it in new if it in self.traits]
             for it in self.impls:
-                if it.of and it.name in new and it.origin == OTHER and is_blanket(it):
-                    text += [it.trait, *it.asks]
+                if it.of and it.origin == OTHER and it.name in used:
+                    if it.name in new and is_blanket(it):
+                        text += [it.trait, *it.asks, *(ty for _, ty in it.gives)]
+                    elif self.speaks_of(it._replace(gives=()), used):
+                        text += [ty for _, ty in it.gives]
         self.find_types(used)
         self.traits = {name: it for name, it in self.traits.items() if name in used or it.local}
         known = {*self.types, *self.traits, *(used & described.PLAIN)}
@@ -124,7 +204,8 @@ class Crate:
 
     def speaks_of(self, impl, known):
         params = {name for _, name in impl.params}
-        said = names_in(" ".join([impl.trait, impl.of or "", *impl.asks])) - params - KEYWORDS
+        said = names_in(" ".join([impl.trait, impl.of or "", *impl.asks, *(ty for _, ty in impl.gives)]))
+        said -= params | KEYWORDS
         return all(it in known or it.isdigit() for it in said)
 
     def library_traits(self):
@@ -132,19 +213,22 @@ class Crate:
         known = library.library()
         for name, params in known.traits.items():
             here = self.named.get(name, name)
-            params = [(sort, self.of.free_name(sort, it)) for sort, it, _ in params]
-            supers = [put(it, self.named) for it in known.supers.get(name, [])]
-            self.traits.setdefault(here, Trait("the library", here, params, supers, [], name in known.autos, False))
+            free = {it: self.of.free_name(sort, it) for sort, it, _ in params}
+            params, here_named = [(sort, free[it]) for sort, it, _ in params], {**self.named, **free}
+            supers, states = ([put(it, here_named) for it in some[name]] for some in (known.supers, known.stated))
+            auto = name in known.autos
+            self.traits.setdefault(here, Trait("the library", here, params, supers, states, [], auto, False))
         for id, name in self.of.names.items():
             if self.of.kind_of(id) == "trait" and name not in self.traits:
                 params = self.params_of(id)
-                self.traits[name] = Trait("another crate", name, params, [], [], False, False)
+                self.traits[name] = Trait(ELSEWHERE, name, params, [], [], [], False, False)
 
     def find_types(self, used):
-        """Finds the types that are spoken of, with their parameters."""
+        """Finds the crate's own types and those that are spoken of, with their parameters."""
         known = library.library().types
         here = {self.named.get(name, name): params for name, params in known.items()}
-        for name in sorted(used):
+        own = {name for name, id in self.ids.items() if id in self.of.index and self.of.is_local(id)}
+        for name in sorted(used | own):
             id = self.ids.get(name)
             if name in here:
                 self.types[name] = [(sort, self.of.free_name(sort, it)) for sort, it, _ in here[name]]
@@ -163,7 +247,7 @@ class Crate:
 
 
 # Words of the language that stand in types.
-KEYWORDS = {"mut", "const", "dyn", "fn", "for", "unsafe", "extern", "C", "system", "where", "Self"}
+KEYWORDS = {"mut", "const", "dyn", "fn", "for", "unsafe", "extern", "C", "system", "where", "Self", "as"}
 
 
 def numbered(sort, at, names=("'x", "X", "N")):
@@ -181,7 +265,41 @@ def is_blanket(impl):
 
 def is_whole(lacks):
     """Says whether what isn't spelled is only what answers leave open of all: regions, and what is sized."""
-    return not set(lacks) - {described.OUTLIVES, described.SIZED}
+    return not set(lacks) - {described.OUTLIVES, described.BINDER, described.SIZED}
+
+
+def is_generic(ty):
+    """Says whether a type that a trait declares has parameters of its own."""
+    return bool(ty["inner"]["assoc_type"]["generics"]["params"])
+
+
+def is_plain(clause):
+    """Says whether a clause has no alias but the one of which it says to what it comes."""
+    of, term = comes_to(clause) or ("", clause)
+    return not any(begins(term, at) for at in range(len(term))) and of.count(" as ") < 2
+
+
+def in_order(asks, unknown):
+    """Gives what is asked for in such an order that parameters are known before something is asked of them: an alias
+    makes them known, and so does a trait's bound, if nothing else does."""
+    found, left, unknown = [], list(asks), set(unknown)
+    while left:
+        ready = (it for of in (given_of, subject) for it in left if not names_in(of(it)) & unknown)
+        found.append(next(ready, left[0]))
+        left.remove(found[-1])
+        unknown -= names_in(found[-1])
+    return found
+
+
+def given_of(clause):
+    """Gives the part of a clause that has to be known: all of it, but what an alias comes to."""
+    return (comes_to(clause) or (clause,))[0]
+
+
+def subject(clause):
+    """Gives what a clause is of: a type that has a trait, or whose type it speaks of."""
+    said = comes_to(clause)
+    return cut(said[0][1:], " as ")[0] if said else cut(clause, ": ")[0]
 
 
 def declarations(crate):
@@ -189,30 +307,33 @@ def declarations(crate):
     lines = [f"struct {name}{generic(params)};" for name, params in crate.types.items()]
     for it in crate.traits.values():
         lines.append(f"{'auto ' if it.auto else ''}trait {it.name}{generic(it.params)};")
+        lines += [f"type {it.name}::{item};" for item in crate.of.declared.get(it.name, ())]
     return lines + [f"super {it.name}: {', '.join(it.supers)};" for it in crate.traits.values() if it.supers]
 
 
 def statements(crate):
-    """Gives the statements of a crate, with a comment for what is left out, and how often it was, by reasons."""
-    lines, missing = declarations(crate), collections.Counter()
+    """Gives the statements of a crate, with a comment for what is left out, and how often it was, by reasons. Each impl
+    has its number beside it, by which answers name it, and its place."""
+    lines, missing, number = declarations(crate), collections.Counter(), 0
 
-    def add(text, what, lacks, place):
+    def left_out(what, lacks, place):
         missing.update(dict.fromkeys(lacks, 1))
-        left = f"{what}: {' and '.join(dict.fromkeys(lacks))}, {place}"
-        lines.append(f"{text}; // {left}" if text else f"// {left}")
+        return f"{what}: {' and '.join(dict.fromkeys(lacks))}, {place}"
 
     for it in crate.traits.values():
+        if it.states:
+            lines.append("// " + left_out(f"{it.name} states {', '.join(it.states)}", [described.OF_ALIAS], it.place))
         if it.lacks:
-            add("", f"super {it.name}", it.lacks, it.place)
+            lines.append("// " + left_out(f"super {it.name}", it.lacks, it.place))
     for it in sorted(crate.impls, key=lambda it: it.origin == OTHER):
-        if not it.of:
-            add("", f"impl {it.name}", [it.trait], it.place)
-        elif not it.lacks:
-            lines.append(f"{impl_text(it)};")
-        elif is_whole(it.lacks):
-            add(impl_text(it), "beside", it.lacks, it.place)
-        else:
-            add("", impl_text(it), it.lacks, it.place)
+        lacks = [*it.lacks, *(why for _, why in it.unsaid)]
+        if not it.of or not is_whole(it.lacks):
+            what, lacks = (impl_text(it), lacks) if it.of else (f"impl {it.name}", [it.trait])
+            lines.append("// " + left_out(what, lacks, it.place))
+            continue
+        number += 1
+        beside = left_out("; beside", lacks, it.place) if lacks else f", {it.place}"
+        lines.append(f"{impl_text(it)}; // {number}{beside}")
     return lines, missing
 
 

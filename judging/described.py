@@ -1,14 +1,17 @@
 """Reads a crate as rustdoc describes it in JSON: names, types and bounds, as a text of questions spells them."""
+import contextlib
 import json
 import os
 import re
 
-from judging.library import library
+from judging.aliases import cut, spelled
+from judging.asking import split_list
+from judging.library import library, put
 
 # Why something is not spelled.
 DECLARED = "a type that a trait declares"
+GENERIC = "arguments of a type that a trait declares"
 BINDER = "a bound under a binder"
-CALL = "a bound by Fn"
 SIZED = "a bound by Sized"
 OUTLIVES = "a bound by a lifetime"
 OF_ALIAS = "a bound of a type that a trait declares"
@@ -59,6 +62,8 @@ class Described:
         self.seen, self.sorts, self.names, self.taken = {}, {}, {}, set()
         # Types as they begin that are no items, each with the parameters of what it stood in.
         self.forms = {}
+        # Of traits: which types each declares, its parameters, and what it states of what implements it.
+        self.declared, self.stated = {}, {}
         self.local_names()
 
     def local_names(self):
@@ -124,6 +129,26 @@ class Described:
             name += "_"
         return name
 
+    def declarer(self, of, trait, item):
+        """Gives the trait that declares a type: one that a type has, or one that this states."""
+        return self.above(of, trait, lambda it: item in self.declared.get(it, ())) or self.note_declared(trait, item)
+
+    def note_declared(self, trait, item):
+        """Takes a type for one of a trait's own; of other crates' traits none is described."""
+        self.declared.setdefault(cut(trait, "<")[0], []).append(item)
+        return trait
+
+    def above(self, of, trait, is_it, seen=frozenset()):
+        """Gives the trait of which that is so: one that a type has, or one that this states; or nothing."""
+        name = re.match(r"\w+", trait)[0]
+        if is_it(name):
+            return trait
+        params, stated = self.stated.get(name, ((), ()))
+        values = dict(zip([it for _, it in params], split_list(trait[len(name) + 1 : -1])), Self=of)
+        supers = [cut(put(it, values), ": ") for it in stated if name not in seen]
+        found = (self.above(of, what, is_it, seen | {name}) for who, what in supers if who == of and what)
+        return next((it for it in found if it), None)
+
     def params_of(self, id):
         """Gives an item's parameters as (sort, name, default), or nothing where they are not described."""
         item = self.index.get(str(id))
@@ -166,13 +191,16 @@ class Scope:
 
     def __init__(self, described, params, me=None):
         self.of, self.names, self.params, self.me, self.made = described, {}, [], me, None
+        # The bounds that are known of what is in it.
+        self.said = []
         for it in params:
             self.declare(next(iter(it["kind"])), it["name"])
 
-    def declare(self, sort, name):
-        spelled = self.of.free_name(sort, name)
-        self.names[name] = spelled
-        self.params.append((sort, spelled))
+    def declare(self, sort, name, source=None):
+        """Declares a parameter, which the source names so, or otherwise."""
+        free = self.of.free_name(sort, name)
+        self.names[source or name] = free
+        self.params.append((sort, free))
 
     def region(self, name):
         if name == "'static" or name in self.names:
@@ -200,10 +228,11 @@ class Scope:
         kind, x = next(iter(it.items()))
         spell = getattr(self, f"spell_{kind}", None)
         if spell is None:
-            raise Unspelled(DECLARED if kind == "qualified_path" else FORM)
+            raise Unspelled(FORM)
         text = spell(x, outer) if kind == "dyn_trait" else spell(x)
-        if kind not in ("generic", "resolved_path"):
-            self.of.forms[form_of(kind, x, text)] = self.params
+        form = form_of(kind, x, text)
+        if kind not in ("generic", "resolved_path", "qualified_path") and " as " not in form:
+            self.of.forms[form] = self.params
         return text
 
     def spell_primitive(self, name):
@@ -249,58 +278,122 @@ class Scope:
         """Spells what an alias of the crate's own stands for."""
         args = self.args(it)
         inner = Scope(self.of, [], self.me)
-        inner.params = self.params
+        inner.params, inner.said = self.params, self.said
         inner.names = dict(zip([p["name"] for p in alias["generics"]["params"]], args))
         return inner.ty(alias["type"])
+
+    def spell_qualified_path(self, it):
+        if not it["trait"]:
+            raise Unspelled(FORM)
+        if angled(it["args"])["args"]:
+            raise Unspelled(GENERIC)
+        of = self.ty(it["self_type"])
+        return self.alias(of, self.trait_said(it["trait"], of), it["name"])
+
+    def trait_said(self, it, of):
+        """Spells the trait of an alias; if its arguments are left out, as a bound has it."""
+        name = self.of.name_of(it["id"], it["path"])
+        said = [] if it["args"] else [cut(one, ": ") for one in self.said]
+        traits = [what for who, what in said if who == of and what]
+        found = (self.of.above(of, trait, lambda one: one == name) for trait in traits)
+        return next((trait for trait in found if trait), None) or self.trait(it, of)
+
+    def alias(self, of, trait, item):
+        """Spells a type that a trait declares."""
+        return spelled(of, self.of.declarer(of, trait, item), item)
 
     def spell_function_pointer(self, it):
         header, sig = it["header"], it["sig"]
         abi = header["abi"] if isinstance(header["abi"], str) else next(iter(header["abi"]))
-        if abi not in ABIS or it["generic_params"] or self.made is not None:
+        if abi not in ABIS or self.made is not None:
             raise Unspelled(FORM)
-        self.made = []
-        try:
+        with self.binding(it["generic_params"]) as names:
             inputs = [self.ty(ty) for _, ty in sig["inputs"]]
-            count = len(self.made)
+            count = len(names)
             output = self.ty(sig["output"]) if sig["output"] else "()"
-            names = self.made
-        finally:
-            self.made = None
         if len(names) > count:
             # What is left out in an output is what is left out in the one input.
             if count != 1:
                 raise Unspelled(FORM)
-            output = re.sub(r"'of\d+", "'of0", output)
+            output = re.sub(r"'of\d+", names[0], output)
         binder = f"for<{', '.join(names[:count])}> " if count else ""
         unsafe = "unsafe " if header["is_unsafe"] else ""
         dots = [".."] if sig["is_c_variadic"] else []
         back = "" if output == "()" else f" -> {output}"
         return f"({binder}{unsafe}{ABIS[abi]}fn({', '.join(inputs + dots)}){back})"
 
+    @contextlib.contextmanager
+    def binding(self, params):
+        """Gives the regions that a binder binds: those that it names, and in time those that are left out."""
+        if any("lifetime" not in it["kind"] for it in params):
+            raise Unspelled(BINDER)
+        outside, self.made = self.names, [f"'of{at}" for at in range(len(params))]
+        self.names = {**outside, **dict(zip([it["name"] for it in params], self.made))}
+        try:
+            yield self.made
+        finally:
+            self.names, self.made = outside, None
+
+    @contextlib.contextmanager
+    def freeing(self, params):
+        """Has parameters for the regions that a bound's binder names."""
+        if any("lifetime" not in it["kind"] for it in params):
+            raise Unspelled(BINDER)
+        outside = self.names
+        self.names = dict(outside)
+        for it in params:
+            self.declare("lifetime", f"'some{len(self.params)}", it["name"])
+        yield
+        self.names = outside
+
     def spell_dyn_trait(self, it, outer):
-        named = []
-        for bound in it["traits"]:
-            if bound["generic_params"]:
-                raise Unspelled(BINDER)
-            named.append(self.trait(bound["trait"], None))
+        named = [self.spell_object(bound) for bound in it["traits"]]
         named.sort(key=lambda it: it in library().autos)
         if any(it not in library().autos for it in named[1:]):
             raise Unspelled(FORM)
         return f"(dyn {' + '.join([*named, self.region(it['lifetime']) if it['lifetime'] else outer])})"
 
+    def spell_object(self, bound):
+        """Spells what a trait object implements."""
+        if self.made is not None:
+            raise Unspelled(FORM)
+        with self.binding(bound["generic_params"]) as names:
+            trait = self.trait(bound["trait"], None)
+            said = [(item, self.ty(ty)) for item, ty in self.constraints(bound["trait"], types_only=True)]
+        binder = f"for<{', '.join(names)}> " if names else ""
+        if not said:
+            return binder + trait
+        declarers = [(self.of.declarer("Self", trait, item), item, ty) for item, ty in said]
+        if any("Self" in it for it, _, _ in declarers):
+            raise Unspelled(FORM)
+        return " + ".join([binder + trait, *(f"{binder}{it}::{item} == {ty}" for it, item, ty in declarers)])
+
+    def constraints(self, it, types_only=False):
+        """Gives what a trait's arguments say of its types, as rustdoc has it: a type, or bounds."""
+        args = it["args"] or {}
+        if "parenthesized" in args:
+            return [("Output", args["parenthesized"]["output"] or {"tuple": []})]
+        found = []
+        for said in angled(args)["constraints"]:
+            binding = said["binding"]
+            if angled(said["args"])["args"]:
+                raise Unspelled(GENERIC)
+            ty = binding["equality"].get("type") if "equality" in binding else None
+            if ty is None and (types_only or "equality" in binding):
+                raise Unspelled(CONST if "equality" in binding else FORM)
+            found.append((said["name"], ty or binding["constraint"]))
+        return found
+
     def trait(self, it, me):
         """Spells a trait with its arguments; `me` is what implements it."""
-        args = it["args"]
-        if args and "angle_bracketed" not in args:
-            raise Unspelled(CALL)
-        if angled(args)["constraints"] and me is None:
-            raise Unspelled(DECLARED)
         args = self.args(it, me)
         name = self.of.name_of(it["id"], it["path"])
         return f"{name}<{', '.join(args)}>" if args else name
 
     def args(self, it, me=None):
         """Spells the arguments of an item, with those that are left out."""
+        if "parenthesized" in (it["args"] or {}):
+            return [self.ty({"tuple": it["args"]["parenthesized"]["inputs"]})]
         params, given = self.of.params_of(it["id"]), []
         shown = list(params) if params is not None else None
         some = angled(it["args"])["args"]

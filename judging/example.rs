@@ -6,7 +6,7 @@ pub trait Area<U = f64> {
     type Unit;
 }
 
-/// Its type has a bound, which is not spelled.
+/// Its type has a bound, for which there is no statement.
 pub trait Solid: Area + Sized {
     type Face: Area;
 }
@@ -42,7 +42,7 @@ impl<T: Named> Solid for Row<T> {
     type Face = Square;
 }
 
-/// What it says of a type that a trait declares is not spelled, and so the impl isn't.
+/// It says what the type of a trait is.
 impl<T> Area<u8> for (T,)
 where
     T: Area<Unit = u8>,
@@ -63,11 +63,44 @@ impl<T: AsRef<str>> AsRef<str> for Row<T> {
     }
 }
 
-/// For all that is known of other crates, `Option` could have `From<Row<T>>`.
-impl<T> Into<Option<T>> for Row<T> {
-    fn into(self) -> Option<T> {
-        Some(self.0)
+/// For all that is known of other crates, `Vec` could have `From<Row<T>>`.
+impl<T> Into<Vec<T>> for Row<T> {
+    fn into(self) -> Vec<T> {
+        vec![self.0]
     }
+}
+
+pub trait Holds<T> {}
+
+/// What it is over stands for itself, as a parameter.
+impl<T: Area> Holds<T::Unit> for Row<T> {}
+
+pub trait Maps<A> {
+    type To;
+}
+
+/// The reference is of any region: one stands for all.
+impl<A, B, F: Fn(&A) -> B> Maps<A> for F {
+    type To = B;
+}
+
+/// It is told from the one before: a number is no function.
+impl Maps<u8> for u8 {
+    type To = <Square as Area>::Unit;
+}
+
+/// Its type has a parameter of its own, and is not spelled.
+pub trait Lends {
+    type Lent<'a>
+    where
+        Self: 'a;
+}
+
+impl<T> Lends for Row<T> {
+    type Lent<'a>
+        = &'a T
+    where
+        T: 'a;
 }
 
 impl<'a> TryFrom<&'a str> for Tag {

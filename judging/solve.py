@@ -1,7 +1,7 @@
 """A goal, impls with bounds, and the bounds of a function: does the goal follow? Both of rustc's solvers say."""
 import re
 
-from judging import kinds
+from judging import asking, kinds
 from judging.terms import UNIT
 
 YES, NO, AMBIGUOUS, DEEP = "yes", "no", "ambiguous", "depth"
@@ -160,7 +160,8 @@ def line(case, number):
 
 
 def told(answer):
-    return {"maybe: ambiguous": AMBIGUOUS, "maybe: depth": DEEP, "budget": DEEP}.get(answer, answer)
+    said = asking.told(answer.text)
+    return {"maybe: ambiguous": AMBIGUOUS, "maybe: depth": DEEP, "budget": DEEP}.get(said, said)
 
 
 def is_open(text, bound, seen=()):
@@ -169,14 +170,15 @@ def is_open(text, bound, seen=()):
 
 
 def expected(case, answers):
-    alone, all_said = (it.text.split("; ")[0] for it in answers)
-    verdict, by = told(all_said), ()
-    if verdict == AMBIGUOUS and told(alone) == YES:
+    alone, verdict = map(told, answers)
+    by = ()
+    if asking.LATE in (alone, verdict):
+        return kinds.Expected(asking.LATE, (asking.LATE,))
+    if verdict == AMBIGUOUS and alone == YES:
         verdict, by, answers = YES, (HIDES,), answers[:1]
     elif verdict == AMBIGUOUS and case.more[1]:
         return kinds.Expected(IF_FIRST, (HIDES,))
-    bound = re.search(r"; bound=\[(.*)\]", answers[-1].text)
-    bound = dict(it.split("=", 1) for it in re.split(r", (?=\?\d+=)", bound[1])) if bound else {}
+    bound = asking.bindings(answers[-1].text)
     if verdict == YES and VAR in variables(case.more[2][1:]) and is_open("?0", bound):
         return kinds.Expected(AMBIGUOUS, (*by, KNOWN))
     return kinds.Expected(verdict, by)
@@ -195,7 +197,7 @@ def observed(case, said):
 
 def agrees(expected, seen):
     allowed = {BOTH: (NO, DEEP)}.get(seen, (seen,))
-    return expected in allowed or expected == IF_FIRST and seen in (YES, NO, AMBIGUOUS)
+    return expected in (*allowed, asking.LATE) or expected == IF_FIRST and seen in (YES, NO, AMBIGUOUS)
 
 
 def smaller(case):

@@ -1,6 +1,7 @@
 """Rules for what a crate leaves open: what isn't spelled, and what other crates may have."""
 from judging import described
-from judging.crate import generic, impl_text, is_whole, names_first, numbered
+from judging.aliases import closing, comes_to, cut
+from judging.crate import ELSEWHERE, generic, impl_text, is_whole, names_first, numbered
 from judging.library import WORD, form_head, library
 
 
@@ -16,17 +17,43 @@ def spelled(crate):
 
 
 def all_own(crate):
-    """Gives beside the others as far as they are spelled, and all types for an impl whose head isn't."""
-    rules = [f"{impl_text(it)};" for it in crate.impls if it.of and not is_whole(it.lacks)]
+    """Gives beside the others as far as they are spelled, and all types for what isn't: an impl's head, or a type of
+    its trait."""
+    rules = []
+    for it in crate.impls:
+        if it.of and (it.unsaid or not is_whole(it.lacks)):
+            free = [(item, f"Z{at}") for at, (item, _) in enumerate(it.unsaid) if item in types_of(crate, it.name)]
+            params = (*it.params, *(("type", name) for _, name in free))
+            it = it._replace(params=params, gives=(*it.gives, *free))
+        if it.of:
+            rules.append(f"{impl_text(it)};")
     headless = {it.name for it in crate.impls if not it.of and it.trait != described.NEGATIVE}
-    return spelled(crate) + rules + [rule(crate.traits[it], "X", [("type", "X")]) for it in sorted(headless)]
+    return rules + [rule(crate, crate.traits[it], "X", [("type", "X")]) for it in sorted(headless)]
 
 
-def rule(trait, of, params):
-    """Gives an impl of a trait for a type, whatever the trait is over."""
+def types_of(crate, trait):
+    return crate.of.declared.get(trait, ())
+
+
+def rule(crate, trait, of, params, outside=False):
+    """Gives an impl of a trait for a type, whatever its types are, and whatever it is over, or only types of others."""
     own = [(sort, numbered(sort, at, ("'y", "Y", "M"))) for at, (sort, _) in enumerate(trait.params)]
     args = f"<{', '.join(name for _, name in own)}>" if own else ""
-    return f"impl{generic([*params, *own])} {trait.name}{args} for {of};"
+    gives = [(item, f"Z{at}") for at, item in enumerate(types_of(crate, trait.name))]
+    given = f" {{ {', '.join(' = '.join(it) for it in gives)} }}" if gives else ""
+    params = [*params, *own, *(("type", name) for _, name in gives)]
+    asks = where(own) if outside else ""
+    return f"impl{generic(params)} {trait.name}{args} for {of}{given}{asks};"
+
+
+def where(params):
+    """Asks of parameters that they are types of other crates."""
+    asks = [f"{name}: {OUTSIDE}" for sort, name in params if sort == "type"]
+    return f" where {', '.join(asks)}" if asks else ""
+
+
+# The trait of types in which there is none of the crate's own.
+OUTSIDE = "types_of_others"
 
 
 def perhaps(crate):
@@ -35,39 +62,43 @@ def perhaps(crate):
     Where the text of the library has no such trait, it may be of all types, and so parameters have it too. A trait
     object has the traits that it names.
     """
-    rules = all_own(crate)
-    asked = asked_traits(crate)
     forms = foreign_forms(crate)
     of_params = [name for name, sort in crate.of.sorts.items() if sort == "type"]
-    known = {crate.named.get(it, it): it for it in library().traits}
-    never = {crate.named.get(it, it): it for it in library().types}
+    rules = [f"trait {OUTSIDE};", *all_own(crate), *(f"impl {OUTSIDE} for {it};" for it in of_params)]
+    rules += [f"impl{generic(params)} {OUTSIDE} for {of}{where(params)};" for of, params in forms]
+    asked = asked_traits(crate)
     for it in crate.traits.values():
-        if it.name not in asked:
-            continue
-        for of, params in forms:
-            form = form_head(of)
-            is_never = (known.get(it.name), never.get(form, form)) in library().never
-            if of.startswith("(dyn ") or not it.local and not is_never:
-                rules.append(rule(it, of, params))
-        if not it.local and it.name not in known:
-            rules += [rule(it, of, []) for of in of_params]
+        if it.name in asked:
+            rules += [rule(crate, it, *form) for form in perhaps_for(crate, it, forms)]
+            if not it.local and it.place == ELSEWHERE:
+                rules += [rule(crate, it, of, []) for of in of_params]
     return list(dict.fromkeys(rules))
+
+
+def perhaps_for(crate, trait, forms):
+    """Gives the forms of types that may have a trait, and whether only over types of other crates."""
+    known = {crate.named.get(it, it): it for it in library().traits}
+    types = {crate.named.get(it, it): it for it in library().types}
+    for of, params in forms:
+        form = form_head(of)
+        pair = (known.get(trait.name), types.get(form, form))
+        if of.startswith("(dyn ") or not trait.local and pair not in library().never:
+            yield of, params, pair in library().outside
 
 
 def asked_traits(crate):
     """Gives the traits that a bound is by, or that another one states."""
-    bounds = [ask for it in crate.impls for ask in it.asks] + [ask for it in crate.traits.values() for ask in it.supers]
+    bounds = [ask for it in crate.impls for ask in it.asks]
+    bounds += [ask for it in crate.traits.values() for ask in (*it.supers, *it.states)]
     return {names_first(trait_of(it)) for it in bounds}
 
 
 def trait_of(clause):
-    """Gives the trait of a clause, behind the type that it is of."""
-    depth = 0
-    for at, sign in enumerate(clause):
-        depth += (sign in "([{<") - (sign in ")]}" or sign == ">" and clause[at - 1] != "-")
-        if depth == 0 and clause.startswith(": ", at):
-            return clause[at + 2 :]
-    raise ValueError(f"no clause: {clause}")
+    """Gives the trait of which a clause speaks, with its arguments."""
+    said = comes_to(clause)
+    if not said:
+        return cut(clause, ": ")[1]
+    return cut(said[0][1 : closing(said[0], 0)], " as ")[1]
 
 
 def foreign_forms(crate):

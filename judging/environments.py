@@ -1,0 +1,136 @@
+"""What is known where bounds hold: they, what traits state beside, and a name for each type that a trait declares."""
+import re
+
+from judging.aliases import Aliases, comes_to, cut, erased, name_for, spelled
+from judging.asking import split_list
+from judging.crate import ELSEWHERE, names_first
+from judging.library import WORD, put
+from judging.worlds import asked_traits
+
+# How many aliases may stand in one: of `T`, of its types, and of theirs.
+MOST = 3
+
+
+def arguments(trait):
+    """Gives the arguments of a trait."""
+    return split_list(trait.partition("<")[2][:-1])
+
+
+def stated_of(traits, clause):
+    """Gives the trait of a clause, and what it states of what has it: of that itself, and of the traits' types."""
+    of, trait = cut(clause, ": ")
+    known = traits.get(names_first(trait)) if trait else None
+    if known is None:
+        return None, [], []
+    values = {"Self": of, **dict(zip([name for _, name in known.params], arguments(trait)))}
+    return known, [put(it, values) for it in known.supers], [put(it, values) for it in known.states]
+
+
+class Environment:
+    """Bounds of a crate, with all that they imply: each alias of a parameter is a parameter of its own, if no bound
+    says to what it comes."""
+
+    def __init__(self, crate, impl, values):
+        """Takes the bounds of an impl, and what some of the parameters come to that stand for aliases. The others that
+        may come to something by impls are left out, with what is asked of them: they are `unknown`, with their aliases.
+        """
+        self.crate, self.clauses, self.made, self.depths = crate, [], set(), {}
+        self.values, self.unknown = values, []
+        params = {name for _, name in impl.params} - {name for name, _ in impl.made}
+        for name, alias in impl.made:
+            of = put(alias[0], values)
+            if of in params:
+                params.add(name)
+            elif name not in values:
+                self.unknown.append((name, put(spelled(*alias), values)))
+        left = {name for name, _ in self.unknown}
+        bounds = [put(it, values) for it in impl.asks if not left & set(WORD.findall(it))]
+        own = {f"{put(spelled(*alias), values)} == {values[name]}" for name, alias in impl.made if name in values}
+        bounds = [it for it in bounds if it not in own or comes_to(it)[1] in values]
+        self.aliases = Aliases(self.parameter)
+        for it in bounds:
+            self.aliases.note(it)
+        for it in bounds:
+            self.add(it)
+
+    def parameter(self, of, trait, item):
+        taken = {*self.made, *self.crate.of.taken, *re.findall(r"\w+", " ".join(self.clauses))}
+        name = self.crate.of.free_name("type", name_for(of, item, taken))
+        self.made.add(name)
+        self.depths[name] = self.depths.get(of, 0) + 1
+        return name
+
+    def add(self, clause):
+        clause = self.aliases.clause(clause)
+        said = comes_to(clause)
+        if said:
+            self.equate(self.aliases.put(said[0]), said[1])
+        elif clause not in self.clauses:
+            self.clauses.append(clause)
+            self.add_stated(clause)
+
+    def equate(self, name, term):
+        """Has one of the parameters that stand for aliases stand for what it is."""
+        if name in self.made and name != term:
+            self.clauses = list(dict.fromkeys(put(it, {name: term}) for it in self.clauses))
+            known = [(put(alias, {name: term}), put(it, {name: term})) for alias, it in self.aliases.said()]
+            self.aliases = Aliases(self.parameter, known)
+
+    def add_stated(self, clause):
+        """Adds what a clause implies; of the types of its trait only where it is of a parameter."""
+        of, trait = cut(clause, ": ")
+        known, supers, states = stated_of(self.crate.traits, clause)
+        if known is None:
+            return
+        items = self.crate.of.declared.get(known.name, ())
+        is_param = re.fullmatch(r"\w+", of) and of not in self.crate.types
+        if self.depths.get(of, 0) < MOST and (is_param or any(self.aliases.has((of, trait, it)) for it in items)):
+            for it in states:
+                self.aliases.note(it)
+            for item in items:
+                self.aliases.term((of, trait, item))
+            supers = supers + states
+        for it in supers:
+            self.add(it)
+
+    def open_in(self, impl):
+        """Gives the parameters of an impl that stand for aliases of which neither its bounds nor impls say anything."""
+        said = {erased(it) for it in self.clauses}
+        left = [(name, [put(it, self.values) for it in alias]) for name, alias in impl.made]
+        left = [(name, erased(f"{of}: {trait}")) for name, (of, trait, _) in left if self.values.get(name) == name]
+        return {name for name, clause in left if clause not in said}
+
+    def text(self):
+        """Gives the statement that assumes all of it."""
+        return assumed([*self.clauses, *self.said()])
+
+    def said(self):
+        return [f"{alias} == {term}" for alias, term in self.aliases.said()]
+
+    def text_perhaps(self):
+        """Gives one that assumes besides what traits of other crates may state that aren't described."""
+        clauses, asked = list(self.clauses), asked_traits(self.crate)
+        may = [it.name for it in self.crate.traits.values() if not it.local and not it.params and it.name in asked]
+        for it in self.clauses:
+            of, trait = cut(it, ": ")
+            known = self.crate.traits.get(names_first(trait))
+            if known is None or known.place == ELSEWHERE:
+                clauses += [f"{of}: {name}" for name in may]
+        return assumed([*clauses, *self.said()])
+
+
+def assumed(clauses):
+    return f"assume {', '.join(dict.fromkeys(clauses))}" if clauses else "assume"
+
+
+def goal_in(environment, impl, clause):
+    """Gives goals: to what each alias of a clause comes of which nothing is known, and last the clause itself."""
+    asked = []
+
+    def variable(*alias):
+        asked.append(f"{spelled(*alias)} == ?{len(asked)}")
+        return f"?{len(asked) - 1}"
+
+    own = {spelled(impl.of, impl.trait, item): put(ty, environment.values) for item, ty in impl.gives}
+    aliases = Aliases(variable, [*own.items(), *environment.aliases.said()])
+    return [*asked, aliases.clause(put(clause, environment.values))]

@@ -1,0 +1,126 @@
+"""Judges pairs of impls of one trait: no type has both, by their headers or by what they ask for."""
+import collections
+import copy
+import itertools
+
+from judging import headers, worlds
+from judging.answering import AMBIGUOUS, BY_BOUND, BY_HEADER, BY_SIZED, DEPTH, ELSEWHERE, LATE, OPEN, UNSPELLED, WRONG
+from judging.answering import Judged, open_because
+from judging.asking import told
+from judging.crate import OTHER, OWN, head, is_blanket, is_whole, subject
+from judging.environments import arguments
+from judging.library import library, put
+from judging.turns import DECLARED, Bound
+
+# How deep goals are looked into, in which variables stand; how often more is asked once something was bound.
+BOUNDS_AT, ROUNDS = 4, 4
+
+# Two impls whose headers meet: what was said of them; a question that makes them one, what both ask for, the variables
+# that are sized, and what variables come to.
+Met = collections.namedtuple("Met", "pair said asked asks sized bound")
+
+
+def pairs_of(it):
+    """Gives the pairs of impls of one trait: of the crate's own, and of these with those of all types."""
+    groups = collections.defaultdict(list)
+    for impl in it.impls:
+        if impl.of and (impl.origin == OWN or impl.origin == OTHER and is_blanket(impl)):
+            groups[impl.name].append(impl)
+    for some in groups.values():
+        for one, other in itertools.combinations(some, 2):
+            if OWN in (one.origin, other.origin):
+                yield one, other
+
+
+def judge_pairs(it, asker):
+    pairs = list(pairs_of(it))
+    answers = asker.ask([], [[f"overlap {head(one)}, {head(other)}"] for one, other in pairs])
+    found, met = [], []
+    for pair, answer in zip(pairs, answers):
+        said = told(answer[0]) if answer else LATE
+        if said.startswith("meets"):
+            met.append(opened(pair, said))
+        else:
+            comes = BY_HEADER if said.startswith("apart") else LATE
+            found.append(Judged(pair[0].place, f"{said}, of {pair[1].place}", comes))
+    return found + judge_met(it, asker, met)
+
+
+def opened(pair, said):
+    """Opens two impls with variables, those of the second behind those of the first."""
+    bound, opened = Bound(), []
+    for impl in pair:
+        values = {}
+        for sort, name in impl.params:
+            sign = {"type": "?", "lifetime": "'?", "const": "?c"}[sort]
+            values[name] = f"{sign}{bound.next[sign]}"
+            bound.next[sign] += 1
+        opened.append((impl, values))
+    lists = [[put(arg, its) for arg in (impl.of, *arguments(impl.trait))] for impl, its in opened]
+    asks = [put(ask, its) for impl, its in opened for ask in impl.asks]
+    sized = [
+        its[name] for impl, its in opened for sort, name in impl.params if sort == "type" and name not in impl.unsized
+    ]
+    left, right = (f"[{', '.join(it)}]" for it in lists)
+    return Met(pair, said, f"args {left} == {right}", list(dict.fromkeys(asks)), sized, bound)
+
+
+def judge_met(it, asker, met):
+    """Asks of impls whose headers meet whether a bound tells them apart: by what is spelled, by all impls, and by any
+    beside."""
+    for one, some in zip(met, asker.ask([DECLARED], [[one.asked] for one in met])):
+        one.bound.note(some[0] if some else "")
+    worlds_of = (worlds.spelled(it), worlds.all_own(it), worlds.perhaps(it))
+    said = [said_of(asker, rules, met) for rules in worlds_of]
+    found = []
+    for at, (pair, text, _, asks, sized, bound) in enumerate(met):
+        goals = [tuple(world[at].get(ask, OPEN) for world in said) for ask in asks]
+        is_sized = not any(is_unsized(it, bound.terms.get(var, "")) for var in sized)
+        comes = met_because(goals, all(is_whole(impl.lacks) for impl in pair)) if is_sized else BY_SIZED
+        found.append(Judged(pair[0].place, f"{text}, of {pair[1].place}: {head(pair[0])}, {head(pair[1])}", comes))
+    return found
+
+
+def said_of(asker, rules, met):
+    """Gives what is said of each bound of impls that meet: of all at once, and again where one has bound a variable.
+    Of one of a variable nothing is asked, since an impl may always be its."""
+    bounds, said, left = [copy.deepcopy(it.bound) for it in met], [{} for _ in met], range(len(met))
+    for _ in range(ROUNDS):
+        asked = []
+        for at in left:
+            goals = [(ask, bounds[at].put(ask)) for ask in met[at].asks if said[at].get(ask) != "yes"]
+            asked.append([(ask, goal) for ask, goal in goals if not subject(goal).startswith("?")])
+        groups = [[f"prove {goal} at {BOUNDS_AT}" for _, goal in some] for some in asked]
+        again = []
+        for at, some, answers in zip(left, asked, asker.ask([DECLARED, *rules], groups)):
+            if note(bounds[at], said[at], some, answers):
+                again.append(at)
+        left = again
+    return said
+
+
+def note(bound, said, asked, answers):
+    """Notes what was said of bounds that no answer changes: says whether more may be said of the others."""
+    for (ask, goal), answer in zip(asked, answers or [LATE] * len(asked)):
+        if bound.put(goal) != goal:
+            continue
+        said[ask] = told(answer)
+        if said[ask] == "no":
+            return False
+        if said[ask] == "yes":
+            bound.note(answer)
+    return any(bound.put(goal) != goal for _, goal in asked)
+
+
+def is_unsized(it, text):
+    return headers.is_unsized(text) or text in {it.named.get(name, name) for name in library().unsized}
+
+
+def met_because(goals, whole):
+    """Says what comes of impls whose headers meet, by what is said of each bound."""
+    if any(it[2] == "no" for it in goals):
+        return BY_BOUND
+    if not whole:
+        return UNSPELLED
+    left = [open_because(it, True) for it in goals if it[0] != "yes"]
+    return next((why for why in (ELSEWHERE, UNSPELLED, LATE, DEPTH, AMBIGUOUS) if why in left), WRONG)
