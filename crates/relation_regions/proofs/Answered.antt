@@ -26,7 +26,7 @@ use Rattle.relation_regions.specs.Numbering.{AreBelow}
 use Rattle.relation_regions.specs.Reading.{numbered, trees_of, AreNumbered, IsProblem}
 use Rattle.relation_regions.specs.Numbered.{AreWithin, IsAnswer}
 use Rattle.relation_regions.specs.Solutions.{AreLeast, IsUnmetBy}
-use Rattle.relation_regions.specs.Solving.{IsFactIn, region_pair, region_pairs, IfMet, IfValued, IfUnmet}
+use Rattle.relation_regions.specs.Solving.{IsFactIn, region_pair, region_pairs, IfMet, IfValued, IfUnmet, IsAnswered}
 use Rattle.relation_regions.proofs.Decided.{has_solution, are_least, is_unmet}
 use Rattle.relation_regions.proofs.InWorlds.{SpeaksOfGiven}
 use Rattle.relation_regions.proofs.RegionNumbers.{region_known}
@@ -142,20 +142,20 @@ module _ {Key Id Name : Type 0} (c : Context Key Id Name) (facts : List (Outlive
 
   module _ (facts_in : All (IsFactIn c) facts) {E : Type 0} where
     module _ (sound : IsSound c.store) where
-      pub met_answer : (r : Result (Solved Key) E) → IfOk r (IsAnswer keys standings asked said known) →
+      met_answer : (r : Result (Solved Key) E) → IfOk r (IsAnswer keys standings asked said known) →
           IfOk r (IfMet c facts)
       met_answer (Ok (Met values)) h = has_solution problem (facts_speak c facts facts_in) sound h.meets
       met_answer (Ok (Unmet longer shorter by)) h = tt
       met_answer (Err e) h = tt
 
-      pub least_answer : (r : Result (Solved Key) E) → IfOk r (IsAnswer keys standings asked said known) →
+      least_answer : (r : Result (Solved Key) E) → IfOk r (IsAnswer keys standings asked said known) →
           IfOk r (IfValued c facts)
       least_answer (Ok (Met values)) h = subst (AreLeast (region_pairs c.meaning facts) c.store)
           (sym (h.values_are (c.meaning).region)) (are_least problem (facts_speak c facts facts_in) sound h.meets)
       least_answer (Ok (Unmet longer shorter by)) h = tt
       least_answer (Err e) h = tt
 
-    pub unmet_answer : (r : Result (Solved Key) E) → IfOk r (IsAnswer keys standings asked said known) →
+    unmet_answer : (r : Result (Solved Key) E) → IfOk r (IsAnswer keys standings asked said known) →
         IfOk r (IfUnmet c facts)
     unmet_answer (Ok (Met values)) h = tt
     unmet_answer (Ok (Unmet longer shorter by)) h =
@@ -167,3 +167,13 @@ module _ {Key Id Name : Type 0} (c : Context Key Id Name) (facts : List (Outlive
         (subst (P (numbered (trees_of c keys) h.first) (numbered (trees_of c keys) h.second)) (sym h.by_is)
         (is_unmet problem (facts_speak c facts facts_in) h.first h.second h.places h.refutes)))
     unmet_answer (Err e) h = tt
+
+    -- All that is answered.
+    pub answered : IsSound c.store → (r : Result (Solved Key) E) → IfOk r (IsAnswer keys standings asked said known) →
+        IfOk r (IsAnswered c facts)
+    answered sound (Ok s) h = record {
+      met = met_answer sound (Ok s) h;
+      least = least_answer sound (Ok s) h;
+      unmet = unmet_answer (Ok s) h;
+    }
+    answered sound (Err e) h = tt

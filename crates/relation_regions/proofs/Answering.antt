@@ -1,8 +1,9 @@
 -- What solving what is recorded in a later context says of the facts of an earlier one.
-use Rattle.std.proofs.Common.{◌≡◌, ℕ, List, All, Option, Result, Ok, Err, refl, sym, subst}
+use Rattle.std.proofs.Common.{◌≡◌, ℕ, List, All, Option, Result, Ok, Err, IfOk, refl, sym, subst}
 use Rattle.std.specs.Global.{Vec}
 use Rattle.term_enums.specs.declared.StructurallyRelateAliases.TheVariants.{No}
 use Rattle.term_enums.specs.declared.Variance.{Variance}
+use Rattle.term_enums.specs.declared.memory.OutOfMemory.{OutOfMemory}
 use Rattle.relation_terms.specs.declared.terms.goal.Goal.{Goal as KeyedGoal}
 use Rattle.relation_terms.specs.declared.terms.keys.PredicateKey.{PredicateKey}
 use Rattle.relation_terms.specs.declared.predicate.regions.OutlivesPredicate.{OutlivesPredicate}
@@ -156,23 +157,31 @@ module _ {S Key Id Name A : Type 0} (state : S → Context Key Id Name) (old mid
       HasSolution facts_before (state mid).store
   solved_of h = solved_as (state old) (state mid) (state new) facts all grown grows same h
 
-  pub told_possible : (s : Solved Key) → IfMet (state new) facts s → All (KnowsGoal (state mid).meaning) goals.items →
+  pub told_possible : (r : Result (Solved Key) OutOfMemory) → IfOk r (IfMet (state new) facts) → All (KnowsGoal (state mid).meaning) goals.items →
       Relates (items_of (state old).meaning) (state mid).store (goals_of (state mid).meaning goals.items)
-      (((state old).meaning).param_env e) v lhs rhs → IsPossible state old new facts over tree e v a b (Ok (told goals s))
-  told_possible (Met values) met known relates = may_be_related (state old) (state mid) (state new) facts all grown grows
+      (((state old).meaning).param_env e) v lhs rhs → IsPossible state old new facts over tree e v a b (told goals r)
+  told_possible (Ok (Met values)) met known relates = may_be_related (state old) (state mid) (state new) facts all grown grows
       same goals.items known relates met
-  told_possible (Unmet longer shorter by) met known relates = tt
+  told_possible (Ok (Unmet longer shorter by)) met known relates = tt
+  told_possible (Err refused) met known relates = tt
 
-  pub told_unsaid : (s : Solved Key) → IfUnmet (state new) facts s → IsUnsaid state old new facts (Ok (told goals s))
-  told_unsaid (Met values) unmet = tt
-  told_unsaid (Unmet longer shorter by) unmet =
+  pub told_unsaid : (r : Result (Solved Key) OutOfMemory) → IfOk r (IfUnmet (state new) facts) → IsUnsaid state old new facts (told goals r)
+  told_unsaid (Ok (Met values)) unmet = tt
+  told_unsaid (Ok (Unmet longer shorter by)) unmet =
       let n = (state new).meaning in
       (unmet_as (state old) (state mid) (state new) facts all grown grows same (n.region longer) (n.region shorter)
       by.items unmet).unsaid
+  told_unsaid (Err refused) unmet = tt
 
-  pub told_clash : (s : Solved Key) → IsClash state old new facts over tree e v a b (Ok (told goals s))
-  told_clash (Met values) = tt
-  told_clash (Unmet longer shorter by) = tt
+  pub told_clash : (r : Result (Solved Key) OutOfMemory) → IsClash state old new facts over tree e v a b (told goals r)
+  told_clash (Ok (Met values)) = tt
+  told_clash (Ok (Unmet longer shorter by)) = tt
+  told_clash (Err refused) = tt
+
+  pub told_spent : (r : Result (Solved Key) OutOfMemory) (P : Type 0) → IfSpent (told {Id = Id} {Name = Name} goals r) P
+  told_spent (Ok (Met values)) P = tt
+  told_spent (Ok (Unmet longer shorter by)) P = tt
+  told_spent (Err refused) P = tt
 
   module _ (asked : JustAsked state old mid over tree No e v a b related)
       (where_asked : RelatesWhereAsked state old mid over tree e v a b related) where
@@ -185,30 +194,32 @@ module _ {S Key Id Name A : Type 0} (state : S → Context Key Id Name) (old mid
         (((state old).meaning).param_env e) v lhs rhs
     where_so bare = where_asked bare.sort bare.left_value bare.right_value bare.left_bare bare.right_bare
 
-    pub told_decides : (s : Solved Key) → IfMet (state new) facts s → IfUnmet (state new) facts s →
-        Decides state old new facts over tree e v a b (Ok (told goals s))
-    told_decides (Met values) met unmet = λ bare follows. (
+    pub told_decides : (r : Result (Solved Key) OutOfMemory) → IfOk r (IfMet (state new) facts) → IfOk r (IfUnmet (state new) facts) →
+        Decides state old new facts over tree e v a b (told goals r)
+    told_decides (Ok (Met values)) met unmet = λ bare follows. (
       λ yes. entailed facts_before (state old).store (state mid).store bare (just bare) (where_so bare) (solved_of met),
       λ h. tt,
     )
-    told_decides (Unmet longer shorter by) met unmet = λ bare follows.
+    told_decides (Ok (Unmet longer shorter by)) met unmet = λ bare follows.
         let n = (state new).meaning in
         refuted facts_before (state old).store (state mid).store bare (just bare) (where_so bare) follows
         (unmet_as (state old) (state mid) (state new) facts all grown grows same (n.region longer) (n.region shorter)
         by.items unmet)
+    told_decides (Err refused) met unmet = λ bare follows. tt
 
-    pub told_follows : (s : Solved Key) → IfMet (state new) facts s → IsLater (state old).store (state mid).store →
-        FollowsStill state old new facts over tree e v a b (Ok (told goals s))
-    told_follows (Met values) met later = λ bare follows yes.
+    pub told_follows : (r : Result (Solved Key) OutOfMemory) → IfOk r (IfMet (state new) facts) → IsLater (state old).store (state mid).store →
+        FollowsStill state old new facts over tree e v a b (told goals r)
+    told_follows (Ok (Met values)) met later = λ bare follows yes.
         follows_as (state old) (state mid) (state new) facts all grown grows same
         (follows_still facts_before (state old).store (state mid).store bare (just bare) (where_so bare) later follows
         (solved_of met))
-    told_follows (Unmet longer shorter by) met later = λ bare follows yes. absurd yes
+    told_follows (Ok (Unmet longer shorter by)) met later = λ bare follows yes. absurd yes
+    told_follows (Err refused) met later = λ bare follows. tt
 
-    pub told_certain : (s : Solved Key) → IfMet (state new) facts s →
+    pub told_certain : (r : Result (Solved Key) OutOfMemory) → IfOk r (IfMet (state new) facts) →
         AsksNothing state old mid over tree a b related →
-        IsCertain state old new facts over tree e v a b (Ok (told goals s))
-    told_certain (Met values) met none = λ bare. (
+        IsCertain state old new facts over tree e v a b (told goals r)
+    told_certain (Ok (Met values)) met none = λ bare. (
       (
         entailed facts_before (state old).store (state mid).store bare (just bare) (where_so bare) (solved_of met),
         none (closed_term lhs (bare.left_value).1 (bare.left_bare).2)
@@ -216,4 +227,5 @@ module _ {S Key Id Name A : Type 0} (state : S → Context Key Id Name) (old mid
       ),
       tt,
     )
-    told_certain (Unmet longer shorter by) met none = λ bare. (tt, tt)
+    told_certain (Ok (Unmet longer shorter by)) met none = λ bare. (tt, tt)
+    told_certain (Err refused) met none = λ bare. (tt, tt)

@@ -9,12 +9,14 @@ use Rattle.relation_terms.specs.declared.terms.keys.RegionKey.{RegionKey}
 use Rattle.relation_terms.specs.Heads.{variable, bound, placeholder, atom, unknown}
 use Rattle.relation_terms.specs.Trees.{Tree, leaf, node, bind, nil, cons, known, Leaves}
 use Rattle.relation_terms.specs.Interning.{AreEqualAsTrees}
+use Rattle.relation_semantics.specs.Contexts.{Context, HasRegion}
 use Rattle.relation_semantics.specs.Stores.{Store, IsRegionIn, IsTermIn, InContext, IsMadeLeaf}
 use Rattle.relation_regions.specs.declared.standing.Standing.{Standing}
 use Rattle.relation_regions.proofs.Columns.{length_more}
 use Rattle.relation_regions.specs.Worlds.{static}
 use Rattle.relation_regions.specs.Numbering.{AddsRegion, same, put_last}
-use Rattle.relation_regions.specs.Reading.{standing_in, numbered, IsAt, AreDistinct, AreNumbered, GrowsBy}
+use Rattle.relation_regions.specs.Reading.{standing_in, numbered, IsAt, AreDistinct, AreNumbered, GrowsBy, HasNumbered}
+use Rattle.relation_regions.specs.Reading.{GetsNumber}
 use Rattle.relation_regions.proofs.ReadPairs.{grows_same, grows_pushed}
 
 -- What is over the context's variables is known.
@@ -69,7 +71,7 @@ module _ {Key : Type 0} (tree : RegionKey Key → Tree) (eq : RegionKey Key → 
       (all i static (subst (λ n. i < n) (sym (length-map keys tree)) lt)))
 
   -- What is found equal has the tree.
-  pub number_at : (keys : List (RegionKey Key)) (i : ℕ) → All (IsRegionIn st) (map tree keys) →
+  number_at : (keys : List (RegionKey Key)) (i : ℕ) → All (IsRegionIn st) (map tree keys) →
       HasAt eq keys region i → IsAt (map tree keys) i (tree region)
   number_at keys i all has = (
     subst (λ n. i < n) (sym (length-map keys tree)) has.0,
@@ -95,7 +97,7 @@ module _ {Key : Type 0} (tree : RegionKey Key → Tree) (eq : RegionKey Key → 
     pushed e = ap (map tree) e ∙ map-append tree keys (region ∷ [])
 
     -- One more region.
-    pub numbered_more : AreNumbered st (map tree keys) standings → AddsRegion eq region standing keys standings keys' standings' →
+    numbered_more : AreNumbered st (map tree keys) standings → AddsRegion eq region standing keys standings keys' standings' →
         AreNumbered st (map tree keys') standings'
     numbered_more h (same e f) =
         subst (λ k. AreNumbered st (map tree k) standings') (sym e)
@@ -113,15 +115,25 @@ module _ {Key : Type 0} (tree : RegionKey Key → Tree) (eq : RegionKey Key → 
         subst (λ l. AreNumbered st l standings') (sym (pushed e))
         (subst (λ s. AreNumbered st (trees ++ t ∷ []) s) (sym f) new)
 
-    pub more_numbered : AddsRegion eq region standing keys standings keys' standings' →
+    more_numbered : AddsRegion eq region standing keys standings keys' standings' →
         GrowsBy (λ t. t ≡ tree region) (map tree keys) (map tree keys')
     more_numbered (same e f) = grows_same (λ t. t ≡ tree region) (map tree keys) (map tree keys') (ap (map tree) e)
     more_numbered (put_last lacks e f small) = subst (λ l. GrowsBy (λ t. t ≡ tree region) (map tree keys) l)
         (sym (pushed e)) (grows_pushed (map tree keys) (tree region))
 
-    -- The number that it gets has its tree.
-    pub number_answer : {E : Type 0} (r : Result ℕ E) → AreNumbered st (map tree keys) standings →
-        OnOk r (AddsRegion eq region standing keys standings keys' standings') → IfOk r (HasAt eq keys' region) →
-        IfOk r (λ i. IsAt (map tree keys') i (tree region))
-    number_answer (Ok i) h adds has = number_at keys' i (numbered_more h adds).regions has
-    number_answer (Err e) h adds has = tt
+-- The number that a region of a context gets has its tree.
+pub gets_number : {Key Id Name E : Type 0} (c : Context Key Id Name) (eq : RegionKey Key → RegionKey Key → Bool) →
+    AreEqualAsTrees (c.meaning).region eq → (region : RegionKey Key) → HasRegion c region → (standing : Standing) →
+    standing ≡ standing_in c.store ((c.meaning).region region) → (keys : List (RegionKey Key))
+    (standings : List Standing) (keys' : List (RegionKey Key)) (standings' : List Standing) (r : Result ℕ E) →
+    HasNumbered c keys standings → OnOk r (AddsRegion eq region standing keys standings keys' standings') →
+    IfOk r (HasAt eq keys' region) → IfOk r (GetsNumber c region keys keys' standings')
+gets_number c eq law region region_in standing stands keys standings keys' standings' (Ok i) h adds has =
+    let tree = (c.meaning).region in
+    let after = numbered_more tree eq law c.store region region_in standing stands keys standings keys' standings' h adds in
+    record {
+      numbered = after;
+      more = more_numbered tree eq law c.store region region_in standing stands keys standings keys' standings' adds;
+      number_is = number_at tree eq law c.store region region_in keys' i after.regions has;
+    }
+gets_number c eq law region region_in standing stands keys standings keys' standings' (Err e) h adds has = tt

@@ -3,6 +3,7 @@ use Rattle.std.specs.Prelude.{◌≡◌, ◌↔◌, List, [], Option, IfOk, Resu
 use Rattle.std.specs.Global.{Vec}
 use Rattle.term_enums.specs.declared.StructurallyRelateAliases.TheVariants.{No}
 use Rattle.term_enums.specs.declared.Variance.{Variance}
+use Rattle.term_enums.specs.declared.memory.OutOfMemory.{OutOfMemory}
 use Rattle.relation_terms.specs.declared.predicate.regions.OutlivesPredicate.{OutlivesPredicate}
 use Rattle.relation_terms.specs.declared.terms.keys.RegionKey.{RegionKey}
 use Rattle.relation_terms.specs.declared.terms.goal.Goal.{Goal as KeyedGoal}
@@ -53,9 +54,11 @@ module _ {Key Id Name : Type 0} where
   clash_of Memory = Err Memory
 
   -- What is answered where goals are left, by what was solved.
-  abbrev pub told : Vec (KeyedGoal Key (PredicateKey Key)) → Solved Key → Subtyping Key Id Name
-  told goals (Met values) = Holds goals
-  told goals (NotMet longer shorter by) = Unmet (record { 0 = longer; 1 = shorter })
+  abbrev pub told : Vec (KeyedGoal Key (PredicateKey Key)) → Result (Solved Key) OutOfMemory →
+      Result (Subtyping Key Id Name) (RelateFault Key Id Name)
+  told goals (Ok (Met values)) = Ok (Holds goals)
+  told goals (Ok (NotMet longer shorter by)) = Ok (Unmet (record { 0 = longer; 1 = shorter }))
+  told goals (Err refused) = Err Memory
 
 -- Between what a context is before the call and after it, which `state` shows.
 module _ {S Key Id Name : Type 0} (state : S → Context Key Id Name) (old new : S)

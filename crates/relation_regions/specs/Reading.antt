@@ -97,6 +97,14 @@ pub record AreNone (p : Pairs) (said : List ℕ) : Type 0 where
   pub no_shorter : p.shorter.items ≡ []
   pub none_said : said ≡ []
 
+-- No regions, and no pairs.
+pub record IsEmpty {Key : Type 0} (keys : List (RegionKey Key)) (standings : List Standing) (asked : Pairs)
+    (said : List ℕ) (known : Pairs) (numbers : List ℕ) : Type 0 where
+  pub no_region : keys ≡ []
+  pub none_stands : standings ≡ []
+  pub none_asked : AreNone asked said
+  pub none_known : AreNone known numbers
+
 -- The pair at a place is of two regions.
 pub record IsPairAt (trees : List Tree) (p : Pairs) (k : ℕ) (a b : Tree) : Type 0 where
   pub below : k < length p.shorter.items
@@ -139,3 +147,31 @@ module _ {Key Id Name : Type 0} (c : Context Key Id Name) where
 
   abbrev pub NumbersMore : (Tree → Type 0) → List (RegionKey Key) → List (RegionKey Key) → Type 0
   NumbersMore P keys keys' = GrowsBy P (trees_of keys) (trees_of keys')
+
+  -- A region has this number: it had it, or got it.
+  pub record GetsNumber (r : RegionKey Key) (keys keys' : List (RegionKey Key)) (standings' : List Standing) (number : ℕ) :
+      Type 0 where
+    pub numbered : HasNumbered keys' standings'
+    pub more : NumbersMore (λ t. t ≡ (c.meaning).region r) keys keys'
+    pub number_is : HasNumber keys' r number
+
+  -- A pair of two regions was put behind the others.
+  pub record ReadsPair (a b : RegionKey Key) (j : ℕ) (keys : List (RegionKey Key)) (p : Pairs) (said : List ℕ)
+      (keys' : List (RegionKey Key)) (standings' : List Standing) (q : Pairs) (said' : List ℕ) : Type 0 where
+    pub numbered : HasNumbered keys' standings'
+    pub more : NumbersMore (λ t. (t ≡ (c.meaning).region a) ⊎ (t ≡ (c.meaning).region b)) keys keys'
+    pub adds : AddsPair (trees_of keys') ((c.meaning).region a) ((c.meaning).region b) j p said q said'
+
+  -- What a constraint asks for was.
+  pub record ReadsAsked (asks : Constraint) (j : ℕ) (keys : List (RegionKey Key)) (p : Pairs) (said : List ℕ)
+      (keys' : List (RegionKey Key)) (standings' : List Standing) (q : Pairs) (said' : List ℕ) : Type 0 where
+    pub numbered : HasNumbered keys' standings'
+    pub more : NumbersMore (IsOf asks) keys keys'
+    pub adds : AddsAsked (trees_of keys') asks j p said q said'
+
+  -- What the first constraints ask for was, and no other regions have got numbers.
+  pub record ReadsFirst (qs : List Constraint) (bound : ℕ) (keys keys' : List (RegionKey Key)) (standings' : List Standing)
+      (p : Pairs) (said : List ℕ) : Type 0 where
+    pub numbered : HasNumbered keys' standings'
+    pub more : NumbersMore (IsOfOne qs) keys keys'
+    pub read : HaveRead qs bound (trees_of keys') p said

@@ -59,3 +59,9 @@ module _ {Key Id Name : Type 0} where
     IfUnmet (Met values) = Unit {0}
     IfUnmet (Unmet longer shorter by) = IsUnmetBy (region_pairs c.meaning facts) c.store ((c.meaning).region longer)
         ((c.meaning).region shorter) by.items
+
+    -- All of it.
+    pub record IsAnswered (s : Solved Key) : Type 0 where
+      pub met : IfMet s
+      pub least : IfValued s
+      pub unmet : IfUnmet s

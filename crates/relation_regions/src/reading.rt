@@ -1,12 +1,10 @@
 //! Constraints and facts are read: their regions get numbers, and they become pairs of these.
-ghost use Rattle.std.specs.Prelude.{◌≡◌, ◌⊎◌, All, length, map, IfOk, OnOk};
-ghost use Rattle.relation_terms.specs.Trees.{Tree};
+ghost use Rattle.std.specs.Prelude.{◌≡◌, All, length, map, IfOk, OnOk};
 ghost use Rattle.relation_semantics.specs.Stores.{ConstraintIn};
 ghost use Rattle.relation_semantics.specs.Constraints.{constraint_of};
 ghost use Rattle.relation_semantics.specs.Contexts.{HasRegion};
-ghost use Rattle.relation_regions.specs.Worlds.{IsOf};
-ghost use Rattle.relation_regions.specs.Reading.{standing_in, AddsPair, AddsAsked, AreNone, HaveRead, IsOfOne};
-ghost use Rattle.relation_regions.specs.Reading.{stating, trees_of, HasNumbered, HasNumber, NumbersMore};
+ghost use Rattle.relation_regions.specs.Reading.{standing_in, stating, AreNone, HasNumbered, GetsNumber};
+ghost use Rattle.relation_regions.specs.Reading.{ReadsPair, ReadsAsked, ReadsFirst};
 ghost use Rattle.relation_regions.specs.Solving.{IsFactIn, region_pairs};
 
 use crate::building::Pairs;
@@ -51,10 +49,8 @@ pub(crate) fn number<C: InferCtxtLike>(
     requires lawful { (C.state ctx.now).lawful }
     requires region_in { HasRegion (C.state ctx.now) region }
     requires numbered { HasNumbered (C.state ctx.now) regions.old.table regions.old.standings.items }
-    ensures numbered { OnOk result (HasNumbered (C.state ctx.now) regions.new.table regions.new.standings.items) }
-    ensures more { let c = C.state ctx.now in
-        OnOk result (NumbersMore c (λ t. t ≡ (c.meaning).region region) regions.old.table regions.new.table) }
-    ensures number { IfOk result (HasNumber (C.state ctx.now) regions.new.table region) }
+    ensures { IfOk result
+        (GetsNumber (C.state ctx.now) region regions.old.table regions.new.table regions.new.standings.items) }
 {
     let standing = standing(ctx, &region);
     regions.add(region, standing)
@@ -73,13 +69,9 @@ fn add_pair<C: InferCtxtLike>(
     requires longer_in { HasRegion (C.state ctx.now) longer }
     requires shorter_in { HasRegion (C.state ctx.now) shorter }
     requires numbered { HasNumbered (C.state ctx.now) regions.old.table regions.old.standings.items }
-    ensures numbered { OnOk result (HasNumbered (C.state ctx.now) regions.new.table regions.new.standings.items) }
-    ensures more { let c = C.state ctx.now in
-        OnOk result (NumbersMore c (λ t. (t ≡ (c.meaning).region longer) ⊎ (t ≡ (c.meaning).region shorter))
-        regions.old.table regions.new.table) }
-    ensures adds { let c = C.state ctx.now in
-        OnOk result (AddsPair (trees_of c regions.new.table) ((c.meaning).region longer) ((c.meaning).region shorter)
-        asked_by pairs.old.pairs pairs.old.asked_by.items pairs.new.pairs pairs.new.asked_by.items) }
+    ensures { OnOk result (ReadsPair (C.state ctx.now) longer shorter asked_by
+        regions.old.table pairs.old.pairs pairs.old.asked_by.items
+        regions.new.table regions.new.standings.items pairs.new.pairs pairs.new.asked_by.items) }
 {
     let first = number(ctx, regions, longer)?;
     let second = number(ctx, regions, shorter)?;
@@ -104,12 +96,9 @@ fn read_constraint<C: InferCtxtLike>(
     requires lawful { (C.state ctx.now).lawful }
     requires constraint_in { let c = C.state ctx.now in ConstraintIn c.store (constraint_of c.meaning constraint) }
     requires numbered { HasNumbered (C.state ctx.now) regions.old.table regions.old.standings.items }
-    ensures numbered { OnOk result (HasNumbered (C.state ctx.now) regions.new.table regions.new.standings.items) }
-    ensures more { let c = C.state ctx.now in
-        OnOk result (NumbersMore c (IsOf (constraint_of c.meaning constraint)) regions.old.table regions.new.table) }
-    ensures adds { let c = C.state ctx.now in
-        OnOk result (AddsAsked (trees_of c regions.new.table) (constraint_of c.meaning constraint) index
-        pairs.old.pairs pairs.old.asked_by.items pairs.new.pairs pairs.new.asked_by.items) }
+    ensures { let c = C.state ctx.now in OnOk result (ReadsAsked c (constraint_of c.meaning constraint) index
+        regions.old.table pairs.old.pairs pairs.old.asked_by.items
+        regions.new.table regions.new.standings.items pairs.new.pairs pairs.new.asked_by.items) }
 {
     match constraint {
         RegionConstraint::Outlives(outlives) => {
@@ -141,11 +130,9 @@ pub(crate) fn read_constraints<C: InferCtxtLike>(
         map (constraint_of c.meaning) constraints.now ≡ (c.store).constraints }
     requires numbered { HasNumbered (C.state ctx.now) regions.old.table regions.old.standings.items }
     requires none { AreNone pairs.old.pairs pairs.old.asked_by.items }
-    ensures numbered { OnOk result (HasNumbered (C.state ctx.now) regions.new.table regions.new.standings.items) }
-    ensures more { let c = C.state ctx.now in
-        OnOk result (NumbersMore c (IsOfOne (c.store).constraints) regions.old.table regions.new.table) }
-    ensures read { let c = C.state ctx.now in let qs = (c.store).constraints in
-        OnOk result (HaveRead qs (length qs) (trees_of c regions.new.table) pairs.new.pairs pairs.new.asked_by.items) }
+    ensures { let c = C.state ctx.now in let qs = (c.store).constraints in
+        OnOk result (ReadsFirst c qs (length qs) regions.old.table regions.new.table regions.new.standings.items
+        pairs.new.pairs pairs.new.asked_by.items) }
 {
     for index in 0..constraints.len() {
         read_constraint(ctx, regions, pairs, constraints[index], index)?;
@@ -164,11 +151,9 @@ pub(crate) fn read_facts<C: InferCtxtLike>(
     requires facts_in { All (IsFactIn (C.state ctx.now)) facts.now }
     requires numbered { HasNumbered (C.state ctx.now) regions.old.table regions.old.standings.items }
     requires none { AreNone pairs.old.pairs pairs.old.asked_by.items }
-    ensures numbered { OnOk result (HasNumbered (C.state ctx.now) regions.new.table regions.new.standings.items) }
-    ensures more { let c = C.state ctx.now in let qs = map stating (region_pairs c.meaning facts.now) in
-        OnOk result (NumbersMore c (IsOfOne qs) regions.old.table regions.new.table) }
-    ensures read { let c = C.state ctx.now in let qs = map stating (region_pairs c.meaning facts.now) in
-        OnOk result (HaveRead qs (length qs) (trees_of c regions.new.table) pairs.new.pairs pairs.new.asked_by.items) }
+    ensures { let c = C.state ctx.now in let qs = map stating (region_pairs c.meaning facts.now) in
+        OnOk result (ReadsFirst c qs (length qs) regions.old.table regions.new.table regions.new.standings.items
+        pairs.new.pairs pairs.new.asked_by.items) }
 {
     for index in 0..facts.len() {
         let fact = facts[index];

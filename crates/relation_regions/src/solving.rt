@@ -1,11 +1,11 @@
 //! Solving: can the regions of a context be as it has recorded?
-ghost use Rattle.std.specs.Prelude.{◌≡◌, ◌<◌, [], All, length, get_or, map, IfOk};
+ghost use Rattle.std.specs.Prelude.{◌≡◌, ◌<◌, All, length, get_or, map, IfOk};
 ghost use Rattle.relation_semantics.specs.Constraints.{constraint_of};
 ghost use Rattle.relation_semantics.specs.ContextCalls.{Grows, KeepsMarks};
 ghost use Rattle.relation_regions.specs.Worlds.{static};
-ghost use Rattle.relation_regions.specs.Reading.{AreNone};
+ghost use Rattle.relation_regions.specs.Reading.{IsEmpty};
 ghost use Rattle.relation_regions.specs.Numbered.{AreWithin, IsAnswer};
-ghost use Rattle.relation_regions.specs.Solving.{IsFactIn, IfMet, IfValued, IfUnmet};
+ghost use Rattle.relation_regions.specs.Solving.{IsFactIn, IfMet, IfValued, IfUnmet, IsAnswered};
 
 use crate::building::Pairs;
 use crate::numbered::{self, Decision};
@@ -47,10 +47,8 @@ struct Problem<X: Eq + Hash> {
 impl<X: Copy + Eq + Hash> Problem<X> {
     // No regions, and no pairs.
     fn new(alloc: Global) -> Self
-        ensures table { result.regions.table ≡ [] }
-        ensures standings { result.regions.standings.items ≡ [] }
-        ensures asked { AreNone result.asked.pairs result.asked.asked_by.items }
-        ensures known { AreNone result.known.pairs result.known.asked_by.items }
+        ensures { let p = result in IsEmpty p.regions.table p.regions.standings.items p.asked.pairs
+            p.asked.asked_by.items p.known.pairs p.known.asked_by.items }
     {
         Problem {
             regions: Regions {
@@ -134,13 +132,9 @@ fn solve_problem<C: InferCtxtLike>(
     requires constraints { let c = C.state ctx.now in
         map (constraint_of c.meaning) constraints.now ≡ (c.store).constraints }
     requires facts_in { All (IsFactIn (C.state ctx.now)) facts.now }
-    requires table { problem.old.regions.table ≡ [] }
-    requires standings { problem.old.regions.standings.items ≡ [] }
-    requires asked { AreNone problem.old.asked.pairs problem.old.asked.asked_by.items }
-    requires known { AreNone problem.old.known.pairs problem.old.known.asked_by.items }
-    ensures met { IfOk result (IfMet (C.state ctx.now) facts.now) }
-    ensures least { IfOk result (IfValued (C.state ctx.now) facts.now) }
-    ensures unmet { IfOk result (IfUnmet (C.state ctx.now) facts.now) }
+    requires empty { let p = problem.old in IsEmpty p.regions.table p.regions.standings.items p.asked.pairs
+        p.asked.asked_by.items p.known.pairs p.known.asked_by.items }
+    ensures { IfOk result (IsAnswered (C.state ctx.now) facts.now) }
 {
     number(ctx, &mut problem.regions, re_static)?;
     read_constraints(ctx, &mut problem.regions, &mut problem.asked, constraints)?;

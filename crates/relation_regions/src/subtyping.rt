@@ -16,6 +16,7 @@ use relation_folds::error::{RelateFault, RelateResult, TypeError};
 use relation_recursion::relatable::Relate;
 use relation_terms::predicate::OutlivesPredicate;
 use relation_terms::terms::{Goal, Keys, ParamEnv, PredicateKey, Span, Variance};
+use term_enums::OutOfMemory;
 use type_relations::relate::solver_relating::RelateExt;
 
 /// Whether one term is a subtype of another where nothing is known of regions but facts.
@@ -85,8 +86,7 @@ pub fn decide_subtype<C: RecordedRegions, T: Relate<C::Interner>>(
         Ok(goals) => goals,
         Err(fault) => return without_goals(fault),
     };
-    let solved = solve(ctx, facts)?;
-    Ok(with_goals(goals, &solved))
+    with_goals(goals, &solve(ctx, facts))
 }
 
 // What comes of it where the two aren't related: a clash is an answer.
@@ -105,16 +105,19 @@ fn without_goals<X: Copy, D: Copy, N: Copy>(
 // What is answered where they are, if the goals hold: by what is solved.
 fn with_goals<X: Copy, D: Copy, N: Copy>(
     goals: Vec<Goal<X, PredicateKey<X>>>,
-    solved: &Solved<X>,
-) -> Subtyping<X, D, N>
+    solved: &Result<Solved<X>, OutOfMemory>,
+) -> Result<Subtyping<X, D, N>, RelateFault<X, D, N>>
     ensures { result ≡ told goals solved.now }
 {
+    let Ok(solved) = solved else {
+        return Err(RelateFault::Memory);
+    };
     match solved {
-        Solved::Met(_) => Subtyping::Holds(goals),
+        Solved::Met(_) => Ok(Subtyping::Holds(goals)),
         Solved::Unmet {
             longer,
             shorter,
             ..
-        } => Subtyping::Unmet(OutlivesPredicate(*longer, *shorter)),
+        } => Ok(Subtyping::Unmet(OutlivesPredicate(*longer, *shorter))),
     }
 }

@@ -2,9 +2,8 @@
 use Rattle.std.proofs.Common.{subst, sym}
 use Rattle.relation_terms.specs.Interning.{Sorted}
 use Rattle.relation_terms.specs.declared.terms.generic_arg.GenericArgKind.TheVariants.{Lifetime, Ty, Const}
-use Rattle.relation_regions.specs.Reading.{trees_of}
 use Rattle.relation_regions.proofs.Constraints.{outlives_is, outlives_in, equal_in, type_in, const_in}
-use Rattle.relation_regions.proofs.Constraints.{outlives_more, outlives_adds, equal_more, equal_adds}
+use Rattle.relation_regions.proofs.Constraints.{outlives_read, equal_read}
 use Rattle.relation_regions.proofs.Sorts.{no_type, no_const}
 use Rattle.relation_regions.proofs.reading.read_constraint.Goals as goal
 
@@ -57,44 +56,28 @@ pub add_pair-requires-in-Eq-2-clause-shorter_in : goal.add_pair-requires-in-Eq-2
 add_pair-requires-in-Eq-2-clause-shorter_in g c = (equal_in (g.C.InferCtxtLike.state c.args.ctx.now) c.args.constraint
     c.in-Eq.equal.0 c.in-Eq.equal.1 c.requires.constraint_in c.in-Eq.is).0
 
-pub returns-in-Lifetime-clause-more : goal.returns-in-Lifetime-clause-more
-returns-in-Lifetime-clause-more g c =
-    let m = g.C.InferCtxtLike.state c.args.ctx.now in
+pub returns-in-Lifetime : goal.returns-in-Lifetime
+returns-in-Lifetime g c =
     let o = c.in-Outlives.outlives in
-    outlives_more m c.args.constraint c.add_pair.result c.in-Lifetime.longer o.1
-    (trees_of m c.args.regions.now.table) (trees_of m c.args.regions.now.table) (trees_of m c.add_pair.new.regions.table)
-    c.args.index c.args.pairs.now.pairs c.args.pairs.now.asked_by.items c.args.pairs.now.pairs
-    c.args.pairs.now.asked_by.items c.add_pair.new.pairs.pairs c.add_pair.new.pairs.asked_by.items
-    (outlives_is m c.args.constraint o (Lifetime c.in-Lifetime.longer) c.in-Outlives.is c.in-Lifetime.is)
-    c.add_pair.ensures.more
+    let regions = c.args.regions.now in
+    let p = c.args.pairs.now in
+    let after = c.add_pair.new in
+    outlives_read (g.C.InferCtxtLike.state c.args.ctx.now) c.in-Lifetime.longer o.1 c.args.index regions.table
+    regions.table after.regions.table regions.standings.items after.regions.standings.items p.pairs p.asked_by.items
+    p.pairs p.asked_by.items after.pairs.pairs after.pairs.asked_by.items c.add_pair.result c.args.constraint
+    (outlives_is (g.C.InferCtxtLike.state c.args.ctx.now) c.args.constraint o (Lifetime c.in-Lifetime.longer)
+    c.in-Outlives.is c.in-Lifetime.is) c.add_pair.ensures
 
-pub returns-in-Lifetime-clause-adds : goal.returns-in-Lifetime-clause-adds
-returns-in-Lifetime-clause-adds g c =
-    let m = g.C.InferCtxtLike.state c.args.ctx.now in
-    let o = c.in-Outlives.outlives in
-    outlives_adds m c.args.constraint c.add_pair.result c.in-Lifetime.longer o.1
-    (trees_of m c.args.regions.now.table) (trees_of m c.args.regions.now.table) (trees_of m c.add_pair.new.regions.table)
-    c.args.index c.args.pairs.now.pairs c.args.pairs.now.asked_by.items c.args.pairs.now.pairs
-    c.args.pairs.now.asked_by.items c.add_pair.new.pairs.pairs c.add_pair.new.pairs.asked_by.items
-    (outlives_is m c.args.constraint o (Lifetime c.in-Lifetime.longer) c.in-Outlives.is c.in-Lifetime.is)
-    c.add_pair.ensures.adds
+pub add_pair-requires-in-Eq-2-clause-numbered : goal.add_pair-requires-in-Eq-2-clause-numbered
+add_pair-requires-in-Eq-2-clause-numbered g c = c.in_ok-add_pair-in-Eq.ensures.numbered
 
-pub returns-in_ok-add_pair-in-Eq-clause-more : goal.returns-in_ok-add_pair-in-Eq-clause-more
-returns-in_ok-add_pair-in-Eq-clause-more g c =
-    let m = g.C.InferCtxtLike.state c.args.ctx.now in
-    equal_more m c.args.constraint c.add_pair-in-Eq-2.result c.in-Eq.equal.0 c.in-Eq.equal.1
-    (trees_of m c.args.regions.now.table) (trees_of m c.add_pair-in-Eq.new.regions.table)
-    (trees_of m c.add_pair-in-Eq-2.new.regions.table) c.args.index c.args.pairs.now.pairs
-    c.args.pairs.now.asked_by.items c.add_pair-in-Eq.new.pairs.pairs c.add_pair-in-Eq.new.pairs.asked_by.items
-    c.add_pair-in-Eq-2.new.pairs.pairs c.add_pair-in-Eq-2.new.pairs.asked_by.items c.in-Eq.is
-    c.in_ok-add_pair-in-Eq.ensures.more c.add_pair-in-Eq-2.ensures.more
-
-pub returns-in_ok-add_pair-in-Eq-clause-adds : goal.returns-in_ok-add_pair-in-Eq-clause-adds
-returns-in_ok-add_pair-in-Eq-clause-adds g c =
-    let m = g.C.InferCtxtLike.state c.args.ctx.now in
-    equal_adds m c.args.constraint c.add_pair-in-Eq-2.result c.in-Eq.equal.0 c.in-Eq.equal.1
-    (trees_of m c.args.regions.now.table) (trees_of m c.add_pair-in-Eq.new.regions.table)
-    (trees_of m c.add_pair-in-Eq-2.new.regions.table) c.args.index c.args.pairs.now.pairs
-    c.args.pairs.now.asked_by.items c.add_pair-in-Eq.new.pairs.pairs c.add_pair-in-Eq.new.pairs.asked_by.items
-    c.add_pair-in-Eq-2.new.pairs.pairs c.add_pair-in-Eq-2.new.pairs.asked_by.items c.in-Eq.is
-    c.in_ok-add_pair-in-Eq.ensures.adds c.add_pair-in-Eq-2.ensures.more c.add_pair-in-Eq-2.ensures.adds
+pub returns-in_ok-add_pair-in-Eq : goal.returns-in_ok-add_pair-in-Eq
+returns-in_ok-add_pair-in-Eq g c =
+    let p = c.args.pairs.now in
+    let mid = c.add_pair-in-Eq.new in
+    let after = c.add_pair-in-Eq-2.new in
+    equal_read (g.C.InferCtxtLike.state c.args.ctx.now) c.in-Eq.equal.0 c.in-Eq.equal.1 c.args.index
+    c.args.regions.now.table mid.regions.table after.regions.table mid.regions.standings.items
+    after.regions.standings.items p.pairs p.asked_by.items mid.pairs.pairs mid.pairs.asked_by.items after.pairs.pairs
+    after.pairs.asked_by.items c.add_pair-in-Eq-2.result c.args.constraint c.in-Eq.is c.in_ok-add_pair-in-Eq.ensures
+    c.add_pair-in-Eq-2.ensures

@@ -1,8 +1,21 @@
 -- One more pair of regions.
-use Rattle.std.proofs.Common.{◌<◌, ◌+◌, length, get_or, take, arith}
-use Rattle.std.proofs.lemmas.List.{take_more}
+use Rattle.std.proofs.Common.{◌<◌, ◌+◌, length, get_or, take, subst, arith}
+use Rattle.std.proofs.lemmas.List.{take_more, take_all}
+use Rattle.relation_regions.specs.Numbering.{AreRegionsOf}
 use Rattle.relation_regions.proofs.NumbersFound.{regions_more}
 use Rattle.relation_regions.proofs.numbering.Regions.regions_of.Goals as goal
+
+pub region-longer-requires-clause-below : goal.region-longer-requires-clause-below
+region-longer-requires-clause-below g c = (c.requires.below c.loop-pair.pair-index (0, 0) (omega arith)).0
+
+pub region-longer-requires-clause-fits : goal.region-longer-requires-clause-fits
+region-longer-requires-clause-fits g c = c.requires.fits
+
+pub region-shorter-requires-clause-below : goal.region-shorter-requires-clause-below
+region-shorter-requires-clause-below g c = (c.requires.below c.loop-pair.pair-index (0, 0) (omega arith)).1
+
+pub region-shorter-requires-clause-fits : goal.region-shorter-requires-clause-fits
+region-shorter-requires-clause-fits g c = c.requires.fits
 
 pub loop-pair-preserved : goal.loop-pair-preserved
 loop-pair-preserved g c =
@@ -12,3 +25,7 @@ loop-pair-preserved g c =
     regions_more c.args.self.now.table (take i pairs) (take (i + 1) pairs) (get_or pairs i (0, 0))
     c.loop-pair.regions.items c.push.new.self.items c.region-longer.result c.region-shorter.result c.loop-pair.invariant
     c.region-longer.ensures c.region-shorter.ensures (take_more pairs i (0, 0) lt) c.in_ok-push.ensures.items
+
+pub returns : goal.returns
+returns g c = subst (λ pairs. AreRegionsOf c.args.self.now.table pairs c.loop-pair.regions.items)
+    (take_all c.loop-pair.pair-index c.args.pairs.now (omega arith)) c.loop-pair.invariant
