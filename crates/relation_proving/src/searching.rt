@@ -1,6 +1,7 @@
 //! What is known of rules and of lists of goals while they are gone through.
 ghost use Rattle.std.specs.Prelude.{◌≡◌, IfOk};
-ghost use Rattle.relation_proving.specs.Searching.{worse_of, search_after, told_by, settled, KeepsTold, MaySettle};
+ghost use Rattle.relation_proving.specs.Searching.{worse_of, search_after, ends, told_by, settled};
+ghost use Rattle.relation_proving.specs.Searching.{KeepsTold, MaySettle};
 
 use crate::blaming::first_named;
 use crate::told::{Blame, Told, ToldOf, Why};
@@ -110,6 +111,13 @@ pub(crate) fn with_tried<R: Drop, X: Copy>(
             Tried::Unclear(again) => Search::Open(worse(why, again)),
         },
     }
+}
+
+/// Whether no other rule counts: the goal follows by one, and that is enough.
+pub(crate) fn is_over<R, X: Copy>(search: &Search<R, X>, enough: bool) -> bool
+    ensures { result ≡ ends enough search.now }
+{
+    enough && matches!(search, Search::Found(..))
 }
 
 /// Keeps what is recorded where a goal follows.

@@ -5,8 +5,7 @@ use Rattle.relation_proving.specs.declared.searching.Round.TheVariants.{Proved, 
 use Rattle.relation_proving.specs.Candidates.{MayAsk, TellsCandidate}
 use Rattle.relation_proving.specs.RuleTerms.{MayUse}
 use Rattle.relation_proving.proofs.Barred.{never_fails}
-use Rattle.relation_proving.specs.Telling.{GoesOn, TellsGoal, goal_tree}
-use Rattle.relation_proving.proofs.OneValue.{comes_to_one}
+use Rattle.relation_proving.specs.Telling.{GoesOn, TellsGoal}
 use Rattle.relation_proving.specs.Searching.{TellsRound}
 use Rattle.relation_proving.proofs.GoingOn.{goes_itself, goes_through, back_itself, back_through, back_goes}
 use Rattle.relation_proving.proofs.GoingOn.{uses_on, proves_on, ask_on, asks_on}
@@ -17,8 +16,13 @@ use Rattle.relation_proving.proofs.Searches.{settles_tells, tried_tells, put_bac
 use Rattle.relation_proving.proofs.proving.+proving.Goals as goal
 
 -- A goal.
-pub follows-comes_to_one-enough-requires : goal.follows-comes_to_one-enough-requires
-follows-comes_to_one-enough-requires g t c = c.requires.goal.is_known
+pub follows-comes_to_one-requires : goal.follows-comes_to_one-requires
+follows-comes_to_one-requires g t c = record { lawful = c.requires.may.lawful; goal = c.requires.goal }
+
+pub follows-returns-in_err-enough-clause-goes_on : goal.follows-returns-in_err-enough-clause-goes_on
+follows-returns-in_err-enough-clause-goes_on g t c =
+    back_goes (g.C.InferCtxtLike.state c.args.ctx.now) (g.C.InferCtxtLike.state c.comes_to_one.new.ctx)
+    c.in_err-enough.ensures.back
 
 pub follows-returns-then-depth-eq0 : goal.follows-returns-then-depth-eq0
 follows-returns-then-depth-eq0 g t c =
@@ -28,8 +32,8 @@ follows-returns-then-depth-eq0 g t c =
 pub follows-loop-place-init : goal.follows-loop-place-init
 follows-loop-place-init g t c =
     let s = g.C.InferCtxtLike.state c.args.ctx.now in
-    search_begins g.C.InferCtxtLike.state g.C.KeepsRecord.with_record s c.args.rules.now c.args.param_env c.args.goal.now c.args.ctx.now
-    (back_itself s c.requires.may.lawful)
+    search_begins g.C.InferCtxtLike.state g.C.KeepsRecord.with_record s c.args.rules.now c.args.param_env c.args.goal.now
+    c.comes_to_one.new.ctx c.in_ok-enough.ensures.back
 
 pub follows-try_and_put_back-requires : goal.follows-try_and_put_back-requires
 follows-try_and_put_back-requires g t c κs within =
@@ -60,8 +64,7 @@ follows-loop-place-preserved g t c =
     (search_goes_on g.C.InferCtxtLike.state g.C.KeepsRecord.with_record s c.args.rules.now c.args.param_env c.args.goal.now
     c.loop-place.ctx c.try_and_put_back.new.ctx c.loop-place.place c.index-rules-place.result c.loop-place-test.true
     c.index-rules-place.is c.requires.may.env_known c.requires.may.rules c.requires.goal inv.back c.in_ok-tried.ensures.back
-    c.comes_to_one-enough.result (λ e. comes_to_one s.store (goal_tree s c.args.goal.now) c.comes_to_one-enough.result
-    c.requires.goal.is_in c.comes_to_one-enough.ensures e) c.loop-place.search c.in_ok-tried.tried inv.tells
+    c.in_ok-enough.enough c.in_ok-enough.ensures.one c.loop-place.search c.in_ok-tried.tried inv.tells
     c.in_ok-tried.ensures.tells)
 
 pub follows-settle-requires : goal.follows-settle-requires
