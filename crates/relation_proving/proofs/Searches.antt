@@ -225,20 +225,19 @@ module _ {S R Key Id Name : Type 0} (state : S → Context Key Id Name) (with_re
     -- No other rule counts: it is as if all were tried.
     pub search_ends : (now : S) (n : ℕ) (enough : Bool) → (enough ≡ true → HasOneValue c.store (goal_tree c g)) →
         (search : Search R Key) → ends enough search ≡ true → Searches now n search → Searches now (length ks) search
-    search_ends now n true o (Found i r) e s = record {
+    search_ends now n enough o (Found i r) e s = record {
       back = s.back;
       tells = (
         (s.tells).0,
         λ u rs x f.
             let p = (s.tells).1 u rs x f in
-            record { by = p.by; follows = p.follows; store = p.store; others = inl (o refl) },
+            record { by = p.by; follows = p.follows; store = p.store; others = inl (o e) },
         (s.tells).2,
         (s.tells).3,
       );
     }
-    search_ends now n true o (Nothing named) e s = absurd (true≢false (sym e))
-    search_ends now n true o (Open why) e s = absurd (true≢false (sym e))
-    search_ends now n false o search e s = absurd (true≢false (sym e))
+    search_ends now n enough o (Nothing named) e s = absurd (true≢false (sym e))
+    search_ends now n enough o (Open why) e s = record { back = s.back; tells = tt }
 
     -- All rules were tried.
     module _ (stands : (r : R) → StandsOn state with_record r) (sound : (x : S) → (state x).lawful → IsSound (state x).store)

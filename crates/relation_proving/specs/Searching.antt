@@ -10,7 +10,7 @@
 --   ends enough search                  whether no other rule counts
 --   told_by search                      what that tells of the goal
 --   settled with_record now search      the context once that is told
-use Rattle.std.specs.Prelude.{◌≡◌, ℕ, ◌<◌, Bool, true, false, List, length, get_or, Option, Some, None}
+use Rattle.std.specs.Prelude.{◌≡◌, ℕ, ◌<◌, Bool, true, false, not, List, length, get_or, Option, Some, None}
 use Rattle.relation_terms.specs.declared.terms.binder.Binder.{Binder}
 use Rattle.relation_terms.specs.declared.terms.keys.ClauseKey.{ClauseKey}
 use Rattle.relation_terms.specs.declared.terms.keys.ClausesKey.{ClausesKey}
@@ -58,12 +58,12 @@ search_after enough n (Open why) (Unclear again) = Open (worse_of why again)
 search_after true n (Open why) (Follows r) = Found n r
 search_after false n (Open why) (Follows r) = Open why
 
--- It follows by one rule, and one is enough: no other counts.
+-- No other rule counts: it follows by one, and that is enough; or it isn't, and the depth is spent.
 abbrev pub ends : {R Key : Type 0} → Bool → Search R Key → Bool
-ends true (Found i r) = true
-ends true (Nothing b) = false
-ends true (Open why) = false
-ends false search = false
+ends enough (Nothing b) = false
+ends enough (Found i r) = enough
+ends enough (Open Depth) = not enough
+ends enough (Open Ambiguous) = false
 
 -- What that tells of the goal, and the context then.
 abbrev pub told_by : {R Key : Type 0} → Search R Key → Told Key

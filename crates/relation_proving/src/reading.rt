@@ -42,8 +42,8 @@ pub fn clause_body<I: Interner>(cx: &I, clause: &Clause<I>) -> Option<ClauseKind
     unbound(cx, form)
 }
 
-/// Whether no variable but of regions stands in a goal, or in what it comes to by what is recorded: so all solutions make
-/// one of it, up to erasure.
+/// Whether no variable but of regions stands in a goal, or in what it comes to by what is recorded: so all solutions
+/// make one of it, up to erasure.
 ///
 /// # Errors
 /// `OutOfMemory` where a growth was refused. Nothing is recorded.

@@ -113,11 +113,16 @@ pub(crate) fn with_tried<R: Drop, X: Copy>(
     }
 }
 
-/// Whether no other rule counts: the goal follows by one, and that is enough.
+/// Whether no other rule counts: the goal follows by one, and that is enough; or it isn't, and the depth is spent.
 pub(crate) fn is_over<R, X: Copy>(search: &Search<R, X>, enough: bool) -> bool
     ensures { result ≡ ends enough search.now }
 {
-    enough && matches!(search, Search::Found(..))
+    match search {
+        Search::Nothing(_) => false,
+        Search::Found(..) => enough,
+        Search::Open(Why::Depth) => !enough,
+        Search::Open(Why::Ambiguous) => false,
+    }
 }
 
 /// Keeps what is recorded where a goal follows.

@@ -67,7 +67,7 @@ follows-loop-place-preserved g t c =
     c.in_ok-enough.enough c.in_ok-enough.ensures.one c.loop-place.search c.in_ok-tried.tried inv.tells
     c.in_ok-tried.ensures.tells)
 
--- It follows by one, which is enough.
+-- No other rule counts.
 pub follows-settle-requires : goal.follows-settle-requires
 follows-settle-requires g t c =
     let s = g.C.InferCtxtLike.state c.args.ctx.now in
