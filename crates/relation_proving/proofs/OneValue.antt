@@ -1,4 +1,4 @@
--- A goal in which no variable but of regions stands: all assignments make one of it, up to erasure.
+-- A goal in which, or in what it comes to, no variable but of regions stands: all solutions make one of it, up to erasure.
 use Rattle.std.proofs.Common.{◌≡◌, ℕ, suc, refl, sym, ◌∙◌, ap, ap₂, Bool, true, false, not, []}
 use Rattle.std.proofs.lemmas.Bool.{or_parts, true≢false}
 use Rattle.relation_terms.specs.Erasure.{erase, kept_parts}
@@ -6,17 +6,16 @@ use Rattle.relation_terms.specs.Heads.{type_var, int_var, float_var, const_var, 
 use Rattle.relation_terms.specs.Heads.{atom, unknown}
 use Rattle.relation_terms.specs.Trees.{Tree, leaf, node, bind, nil, cons, Assign, apply}
 use Rattle.relation_folds.specs.Visits.{has_leaf, is_non_region_infer, non_region_infer_stands}
-use Rattle.relation_semantics.specs.Stores.{Store, InContext, IsTermIn, IsAssignment}
+use Rattle.relation_semantics.specs.Stores.{Store, InContext, IsTermIn, IsAssignment, IsSound, resolved}
 use Rattle.relation_semantics.proofs.Agreeing.{stands_sort}
 use Rattle.relation_semantics.proofs.Erased.{erase_region}
 use Rattle.relation_semantics.proofs.Standing.{term_context}
+use Rattle.relation_semantics.proofs.StoreCalls.{resolved_unifies, resolved_in}
+use Rattle.relation_solver.specs.Traces.{HasOneValue}
 
 -- All assignments of a record make one of it.
-abbrev pub HasOneValue : Store → Tree → Type 0
-HasOneValue st g = (s s' : Assign) → IsAssignment st s → IsAssignment st s' → erase (apply s g) ≡ erase (apply s' g)
-
 one_value : (st : Store) (d : ℕ) (t : Tree) → has_leaf is_non_region_infer d t ≡ false → InContext st t →
-    HasOneValue st t
+    (s s' : Assign) → IsAssignment st s → IsAssignment st s' → erase (apply s t) ≡ erase (apply s' t)
 unfolding InContext
 one_value st d (leaf (variable region_var n)) e i s s' a b =
     erase_region (s region_var n) (stands_sort region_var (s region_var n) (a region_var n i).0)
@@ -40,6 +39,13 @@ off : (b : Bool) → not b ≡ true → b ≡ false
 off true e = sym e
 off false e = refl
 
-pub comes_to_one : (st : Store) (t : Tree) (b : Bool) → IsTermIn st t → b ≡ not (non_region_infer_stands t) → b ≡ true →
+-- So it is of a goal in which none stands, and of one that comes to such a goal.
+pub is_one : (st : Store) (t : Tree) (b : Bool) → IsTermIn st t → b ≡ non_region_infer_stands t → not b ≡ true →
     HasOneValue st t
-comes_to_one st t b i e h = one_value st 0 t (off (non_region_infer_stands t) (sym e ∙ h)) (term_context st t i)
+is_one st t b i e h s s' p p' = one_value st 0 t (sym e ∙ off b h) (term_context st t i) s s' p.0 p'.0
+
+pub comes_to_one : (st : Store) (g : IsSound st) (t : Tree) (b : Bool) → IsTermIn st t →
+    b ≡ non_region_infer_stands (apply (resolved st) t) → not b ≡ true → HasOneValue st t
+comes_to_one st g t b i e h s s' p p' =
+    sym (resolved_unifies st g s p.1 t)
+    ∙ (is_one st (apply (resolved st) t) b (resolved_in st g t i) e h s s' p p' ∙ resolved_unifies st g s' p'.1 t)

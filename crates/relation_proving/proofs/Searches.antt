@@ -3,6 +3,7 @@ use Rattle.std.proofs.Common.{◌≡◌, ◌⊎◌, ℕ, ◌+◌, ◌<◌, ◌�
 use Rattle.std.proofs.Common.{get_or, take, arith, inl, inr, Bool, true, false, Option, Some, None}
 use Rattle.std.specs.Prelude.{Contains, IfSome}
 use Rattle.std.specs.List.{AllZip}
+use Rattle.std.proofs.lemmas.Bool.{true≢false}
 use Rattle.std.proofs.lemmas.List.{take_all, take_more}
 use Rattle.std.proofs.lemmas.List.Elements.{All-get_or, Contains-get_or}
 use Rattle.relation_terms.specs.declared.terms.binder.Binder.{Binder}
@@ -18,7 +19,7 @@ use Rattle.relation_semantics.specs.Steps.{IsLater}
 use Rattle.relation_semantics.specs.Stores.{IsSound}
 use Rattle.kept_records.specs.Records.{SameRecord, IsRecordOf, StandsOn}
 use Rattle.relation_solver.specs.Rules.{Rule, given}
-use Rattle.relation_solver.specs.Traces.{Did, goal, rule, yes, no, FollowsBy, ProvesBy, took_first}
+use Rattle.relation_solver.specs.Traces.{Did, goal, rule, yes, no, FollowsBy, ProvesBy, took_first, HasOneValue}
 use Rattle.relation_solver.proofs.Going.{AllFail, AllOthersFail, one_more_fails, first_found, one_other_fails, all_fail}
 use Rattle.relation_solver.proofs.Going.{takes_alone}
 use Rattle.kept_records.proofs.Kept.{may_put_back, put_back_is, put_back_means}
@@ -35,10 +36,10 @@ use Rattle.relation_proving.specs.RuleTerms.{MayUse}
 use Rattle.relation_proving.specs.Telling.{GoesOn, IsBack, IsExact, goal_tree, TellsGoal, TellsRule}
 use Rattle.relation_proving.specs.Telling.{SaysYesBy, IsProvedBy, KnowsBlame, rule_at}
 use Rattle.relation_proving.specs.RuleTerms.{IsRuleOf}
-use Rattle.relation_proving.specs.Searching.{first_of, search_after, told_by, settled, HasKept, KeepsTold, MaySettle, TellsTried}
+use Rattle.relation_proving.specs.Searching.{first_of, search_after, ends, told_by, settled, HasKept, KeepsTold, MaySettle}
+use Rattle.relation_proving.specs.Searching.{TellsTried}
 use Rattle.relation_proving.proofs.GoingOn.{zip_length, zip_at, goes_through, back_through, back_goes, blame_on}
 use Rattle.relation_proving.proofs.Answering.{rule_back}
-use Rattle.relation_proving.proofs.OneValue.{HasOneValue}
 
 first_known : {Key : Type 0} (P : Blame Key → Type 0) (a b : Option (Blame Key)) → IfSome a P → IfSome b P →
     IfSome (first_of a b) P
@@ -220,6 +221,23 @@ module _ {S R Key Id Name : Type 0} (state : S → Context Key Id Name) (with_re
         back = back_through c (state now) (state then) b b';
         tells = after enough o search tried s t;
       }
+
+    -- No other rule counts: it is as if all were tried.
+    pub search_ends : (now : S) (n : ℕ) (enough : Bool) → (enough ≡ true → HasOneValue c.store (goal_tree c g)) →
+        (search : Search R Key) → ends enough search ≡ true → Searches now n search → Searches now (length ks) search
+    search_ends now n enough o (Found i r) e s = record {
+      back = s.back;
+      tells = (
+        (s.tells).0,
+        λ u rs x f.
+            let p = (s.tells).1 u rs x f in
+            record { by = p.by; follows = p.follows; store = p.store; others = inl (o e) },
+        (s.tells).2,
+        (s.tells).3,
+      );
+    }
+    search_ends now n enough o (Nothing named) e s = absurd (true≢false (sym e))
+    search_ends now n enough o (Open why) e s = record { back = s.back; tells = tt }
 
     -- All rules were tried.
     module _ (stands : (r : R) → StandsOn state with_record r) (sound : (x : S) → (state x).lawful → IsSound (state x).store)

@@ -7,9 +7,10 @@
 --   TellsTried ..                       what is told of a rule that was tried, once the record is put back
 --   first_of a b                        of two goals that are named the first
 --   search_after enough n search tried  what is known of the rules with one more, which is at place n
+--   ends enough search                  whether no other rule counts
 --   told_by search                      what that tells of the goal
 --   settled with_record now search      the context once that is told
-use Rattle.std.specs.Prelude.{◌≡◌, ℕ, ◌<◌, Bool, true, false, List, length, get_or, Option, Some, None}
+use Rattle.std.specs.Prelude.{◌≡◌, ℕ, ◌<◌, Bool, true, false, not, List, length, get_or, Option, Some, None}
 use Rattle.relation_terms.specs.declared.terms.binder.Binder.{Binder}
 use Rattle.relation_terms.specs.declared.terms.keys.ClauseKey.{ClauseKey}
 use Rattle.relation_terms.specs.declared.terms.keys.ClausesKey.{ClausesKey}
@@ -56,6 +57,13 @@ search_after enough n (Open why) (Fails c) = Open why
 search_after enough n (Open why) (Unclear again) = Open (worse_of why again)
 search_after true n (Open why) (Follows r) = Found n r
 search_after false n (Open why) (Follows r) = Open why
+
+-- No other rule counts: it follows by one, and that is enough; or it isn't, and the depth is spent.
+abbrev pub ends : {R Key : Type 0} → Bool → Search R Key → Bool
+ends enough (Nothing b) = false
+ends enough (Found i r) = enough
+ends enough (Open Depth) = not enough
+ends enough (Open Ambiguous) = false
 
 -- What that tells of the goal, and the context then.
 abbrev pub told_by : {R Key : Type 0} → Search R Key → Told Key

@@ -15,8 +15,8 @@ use crate::candidate::{Candidate, try_rule};
 use crate::opening::RuleOf;
 use crate::reading::comes_to_one;
 use crate::searching::{
-    Round, RoundOf, Search, Tried, TriedOf, Verdict, VerdictOf, keep_told, settle, with_tried,
-    worse,
+    Round, RoundOf, Search, Tried, TriedOf, Verdict, VerdictOf, is_over, keep_told, settle,
+    with_tried, worse,
 };
 pub use crate::told::{Blame, BlameOf, Told, ToldOf, Why};
 use kept_records::KeepsRecord;
@@ -29,13 +29,13 @@ use relation_terms::terms::{Clause, ParamEnv, Span};
 ///
 /// Each rule is opened, and what it gives is related with the goal; what it asks for is proved in turn, at one less
 /// depth, in rounds: what isn't told of a goal is asked again once another was proved. It is `Yes` where the goal
-/// follows by one rule alone and no other is left, and where it follows by one at all if no variable but of regions
-/// stands in it; the record is then what the first of these leaves, and the answer has the rule's place. Where more
-/// than one rule is left it is `Maybe(Ambiguous)`, and so it is where a binder that binds something, another predicate
-/// than that a trait is implemented or to what an alias comes, or a goal that relating leaves stands in the way; where the
-/// depth is spent, `Maybe(Depth)`, which counts first. A `No` names the goal that failed in the end, and the rule that
-/// asked for it, of the first rule that gives the goal; it names none where no rule does. An alias stands for itself, but
-/// where a goal or a rule says to what it comes.
+/// follows by one rule alone and no other is left, and, where no variable but of regions stands in what it comes to by
+/// what is recorded, by the first rule by which it follows; the record is then what that one leaves, and the answer
+/// has its place. Where more than one rule is left it is `Maybe(Ambiguous)`, and so it is where a binder that binds
+/// something, another predicate than that a trait is implemented or to what an alias comes, or a goal that relating
+/// leaves stands in the way; where the depth is spent, `Maybe(Depth)`, which counts first. A `No` names the goal that
+/// failed in the end, and the rule that asked for it, of the first rule that gives the goal; it names none where no
+/// rule does. An alias stands for itself, but where a goal or a rule says to what it comes.
 ///
 /// The interner has to know the environment, the rules and the goal, whose binders bind by their lists; their variables
 /// and placeholders are the context's. Where no variable stands in a rule, each assignment that satisfies what is
@@ -93,9 +93,12 @@ fn follows<C: KeepsRecord>(
     if depth == 0 {
         return Ok(Told::Maybe(Why::Depth));
     }
-    let enough = comes_to_one(&*ctx, goal);
+    let enough = comes_to_one(ctx, goal)?;
     let mut search = Search::Nothing(None);
     for (place, rule) in rules.iter().enumerate() {
+        if is_over(&search, enough) {
+            return Ok(settle(ctx, search));
+        }
         let tried = try_and_put_back(ctx, rules, param_env, *rule, place, goal, depth - 1, span)?;
         search = with_tried(search, place, tried, enough);
     }

@@ -1,16 +1,18 @@
 //! Clauses whose binders bind nothing, those that come to one thing, and of which traits and items clauses are.
-ghost use Rattle.std.specs.Prelude.{◌≡◌, IfSome, IsSome, IsTrue, Some, not};
+ghost use Rattle.std.specs.Prelude.{◌≡◌, IfOk, IfSome, IsSome, IsTrue, Some};
 ghost use Rattle.relation_terms.specs.Trees.{known};
-ghost use Rattle.relation_folds.specs.Visits.{non_region_infer_stands};
+ghost use Rattle.relation_solver.specs.Traces.{HasOneValue};
 ghost use Rattle.relation_proving.specs.Bodies.{FindsBody, FindsUnbound};
+ghost use Rattle.relation_proving.specs.Candidates.{MayAsk};
 ghost use Rattle.relation_proving.specs.RuleTerms.{rule_tree};
 ghost use Rattle.relation_proving.specs.Subjects.{args_of as arguments_of, AreOfTwo, GivesAnother};
+ghost use Rattle.relation_proving.specs.Telling.{IsBack};
 
 use crate::opening::RuleOf;
 use relation_folds::visit::has_non_region_infer;
 use relation_semantics::infer_ctxt::InferCtxtLike;
 use relation_terms::predicate::{ClauseForm, ClauseKind, ProjectionPredicate};
-use relation_terms::terms::{ArgsKey, Clause, Interner, Keys};
+use relation_terms::terms::{ArgsKey, Clause, Interner, Keys, OutOfMemory};
 
 /// What an interner's clause says.
 pub type ClauseKindOf<I> = ClauseKind<<I as Keys>::Key, <I as Keys>::Id, <I as Keys>::Name>;
@@ -40,13 +42,26 @@ pub fn clause_body<I: Interner>(cx: &I, clause: &Clause<I>) -> Option<ClauseKind
     unbound(cx, form)
 }
 
-/// Whether no variable but of regions stands in a clause, which the interner knows: so all assignments make one of it, up
-/// to erasure.
-pub(crate) fn comes_to_one<C: InferCtxtLike>(ctx: &C, clause: &Clause<C::Interner>) -> bool
-    requires { IsTrue (known (((C.state ctx.now).meaning).clause clause.now)) }
-    ensures { result ≡ not (non_region_infer_stands (((C.state ctx.now).meaning).clause clause.now)) }
+/// Whether no variable but of regions stands in a goal, or in what it comes to by what is recorded: so all solutions
+/// make one of it, up to erasure.
+///
+/// # Errors
+/// `OutOfMemory` where a growth was refused. Nothing is recorded.
+pub(crate) fn comes_to_one<C: InferCtxtLike>(
+    ctx: &mut C,
+    goal: &Clause<C::Interner>,
+) -> Result<bool, OutOfMemory>
+    requires lawful { (C.state ctx.old).lawful }
+    requires goal { MayAsk (C.state ctx.old) goal.now }
+    ensures back { IsBack (C.state ctx.old) (C.state ctx.new) }
+    ensures one { let c = C.state ctx.old in
+        IfOk result (λ r. IsTrue r → HasOneValue c.store ((c.meaning).clause goal.now)) }
 {
-    !has_non_region_infer(ctx.cx(), clause)
+    if !has_non_region_infer(ctx.cx(), goal) {
+        return Ok(true);
+    }
+    let resolved = ctx.resolve_vars_if_possible(goal)?;
+    Ok(!has_non_region_infer(ctx.cx(), &resolved))
 }
 
 // The arguments of the trait or the item that a clause says something of.

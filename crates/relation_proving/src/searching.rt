@@ -1,6 +1,7 @@
 //! What is known of rules and of lists of goals while they are gone through.
 ghost use Rattle.std.specs.Prelude.{◌≡◌, IfOk};
-ghost use Rattle.relation_proving.specs.Searching.{worse_of, search_after, told_by, settled, KeepsTold, MaySettle};
+ghost use Rattle.relation_proving.specs.Searching.{worse_of, search_after, ends, told_by, settled};
+ghost use Rattle.relation_proving.specs.Searching.{KeepsTold, MaySettle};
 
 use crate::blaming::first_named;
 use crate::told::{Blame, Told, ToldOf, Why};
@@ -109,6 +110,18 @@ pub(crate) fn with_tried<R: Drop, X: Copy>(
             Tried::Fails(_) => Search::Open(why),
             Tried::Unclear(again) => Search::Open(worse(why, again)),
         },
+    }
+}
+
+/// Whether no other rule counts: the goal follows by one, and that is enough; or it isn't, and the depth is spent.
+pub(crate) fn is_over<R, X: Copy>(search: &Search<R, X>, enough: bool) -> bool
+    ensures { result ≡ ends enough search.now }
+{
+    match search {
+        Search::Nothing(_) => false,
+        Search::Found(..) => enough,
+        Search::Open(Why::Depth) => !enough,
+        Search::Open(Why::Ambiguous) => false,
     }
 }
 

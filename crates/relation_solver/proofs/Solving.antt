@@ -267,7 +267,7 @@ module _ (u : ℕ) (held : List Tree) (rules : List Rule) where
         let s' = all_met.0 in
         let h' : IsErasedSolution after s' = (all_met.1, λ k n t e. ap erase (all_met.2 k n t e)) in
         let back = taken_sound before middle after r vars g c t (sound d) s' h' in
-        taken_extends before middle after r vars g t d (extends d) i s s' h h' (same s s' h.0 back.0.0)
+        taken_extends before middle after r vars g t d (extends d) i s s' h h' (same s s' h back.0)
     whole (did_none st) = λ i s h w. (s, (λ k n m. refl), h)
     whole (did_next before middle after g gs hs a d l e) = λ i s h w.
         let images = images_without (apply s) a in

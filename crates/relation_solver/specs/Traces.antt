@@ -5,6 +5,7 @@
 --   Opens u st st' r xs         rule r was opened by the variables xs
 --   GivesWay held st r xs       whatever an opened rule gives way to the environment has, under each solution of st
 --   StandsFirst held st r xs    or has it under none
+--   HasOneValue st g            a goal comes to one under all solutions of st
 --   Did u held rules st q a     a solver that was asked q in the record st answered a, by these calls and no others
 --   FollowsBy u held rules st st' r g   a goal followed by a rule: st' is recorded then
 --   MakesMeet c st gs e a b     what satisfies st, and makes the goals gs true, makes two clauses say one thing
@@ -15,7 +16,7 @@ use Rattle.std.specs.Prelude.{◌≡◌, ℕ, ◌≤◌, List, [], ◌∷◌, Al
 use Rattle.relation_terms.specs.Trees.{Tree, Assign, apply, inst, Leaves}
 use Rattle.relation_terms.specs.Erasure.{erase}
 use Rattle.relation_semantics.specs.Relation.{Items, Interpretation, FitKinds, IsValueLeaf}
-use Rattle.relation_semantics.specs.Stores.{Store, IsSound, IsAssignment, InContext, OnlyShrinks, Satisfies}
+use Rattle.relation_semantics.specs.Stores.{Store, IsSound, InContext, OnlyShrinks, Satisfies}
 use Rattle.relation_semantics.specs.Goals.{Goal, Holds}
 use Rattle.relation_semantics.specs.FirstOrder.{IsErasedSolution, Unifies}
 use Rattle.relation_semantics.specs.Steps.{AllNamable, MakesVariables, IsLater}
@@ -64,6 +65,11 @@ abbrev pub StandsFirst : List Tree → Store → Rule → List Tree → Type 0
 StandsFirst held st r vars = (clause had : Tree) → Contains r.shadowed_by clause → Contains held had →
     NoUnifier st had (inst vars 0 clause)
 
+-- All solutions of a record make one of a goal, up to erasure.
+abbrev pub HasOneValue : Store → Tree → Type 0
+HasOneValue st g = (s s' : Assign) → IsErasedSolution st s → IsErasedSolution st s' →
+    erase (apply s g) ≡ erase (apply s' g)
+
 -- A rule was opened, what it gives was related with a goal, exactly, and it doesn't give way.
 pub record Takes (u : ℕ) (held : List Tree) (before after : Store) (r : Rule) (vars : List Tree) (g : Tree) :
     Type 0 where
@@ -79,12 +85,10 @@ pub data Did (u : ℕ) (held : List Tree) (rules : List Rule) : Store → Step �
       Takes u held before middle r vars g → Did u held rules middle (goals (map (inst vars 0) r.asks)) (yes after) →
       ((q : Rule) → Contains rules q → Did u held rules before (rest r q g) no) →
       Did u held rules before (goal g) (yes after)
-  -- some rule by which a goal follows that is one under all assignments
+  -- some rule by which a goal follows that comes to one
   took_first : (before middle after : Store) (r : Rule) (vars : List Tree) (g : Tree) → Contains rules r →
       Takes u held before middle r vars g → Did u held rules middle (goals (map (inst vars 0) r.asks)) (yes after) →
-      IsSound after →
-      ((s s' : Assign) → IsAssignment before s → IsAssignment before s' → erase (apply s g) ≡ erase (apply s' g)) →
-      Did u held rules before (goal g) (yes after)
+      IsSound after → HasOneValue before g → Did u held rules before (goal g) (yes after)
   did_none : (st : Store) → Did u held rules st (goals []) (yes st)
   did_next : (before middle after : Store) (g : Tree) (gs hs : List Tree) → Without g gs hs →
       Did u held rules before (goal g) (yes middle) → IsLater before middle →

@@ -1,24 +1,28 @@
 -- What each call asks for and tells.
-use Rattle.std.proofs.Common.{rules, arith, ◌≤◌, ◌+◌, sym, subst, length, All}
+use Rattle.std.proofs.Common.{rules, arith, ◌≤◌, ◌+◌, sym, subst, ◌∙◌, length, All}
 use Rattle.kept_records.proofs.Kept.{may_put_back}
 use Rattle.relation_proving.specs.declared.searching.Round.TheVariants.{Proved, Failed}
 use Rattle.relation_proving.specs.Candidates.{MayAsk, TellsCandidate}
 use Rattle.relation_proving.specs.RuleTerms.{MayUse}
 use Rattle.relation_proving.proofs.Barred.{never_fails}
-use Rattle.relation_proving.specs.Telling.{GoesOn, TellsGoal, goal_tree}
-use Rattle.relation_proving.proofs.OneValue.{comes_to_one}
+use Rattle.relation_proving.specs.Telling.{GoesOn, TellsGoal}
 use Rattle.relation_proving.specs.Searching.{TellsRound}
 use Rattle.relation_proving.proofs.GoingOn.{goes_itself, goes_through, back_itself, back_through, back_goes}
 use Rattle.relation_proving.proofs.GoingOn.{uses_on, proves_on, ask_on, asks_on}
 use Rattle.relation_proving.proofs.Answering.{by_asks_result, by_apart, AsksOn, asking_begins, asking_ended}
 use Rattle.relation_proving.proofs.Answering.{asking_goes_on, asking_fails, round_proved, round_failed, named_known}
-use Rattle.relation_proving.proofs.Searches.{Searches, search_begins, search_goes_on, may_settle, settles_goes}
+use Rattle.relation_proving.proofs.Searches.{Searches, search_begins, search_goes_on, search_ends, may_settle, settles_goes}
 use Rattle.relation_proving.proofs.Searches.{settles_tells, tried_tells, put_back_grown, put_back_back}
 use Rattle.relation_proving.proofs.proving.+proving.Goals as goal
 
 -- A goal.
-pub follows-comes_to_one-enough-requires : goal.follows-comes_to_one-enough-requires
-follows-comes_to_one-enough-requires g t c = c.requires.goal.is_known
+pub follows-comes_to_one-requires : goal.follows-comes_to_one-requires
+follows-comes_to_one-requires g t c = record { lawful = c.requires.may.lawful; goal = c.requires.goal }
+
+pub follows-returns-in_err-enough-clause-goes_on : goal.follows-returns-in_err-enough-clause-goes_on
+follows-returns-in_err-enough-clause-goes_on g t c =
+    back_goes (g.C.InferCtxtLike.state c.args.ctx.now) (g.C.InferCtxtLike.state c.comes_to_one.new.ctx)
+    c.in_err-enough.ensures.back
 
 pub follows-returns-then-depth-eq0 : goal.follows-returns-then-depth-eq0
 follows-returns-then-depth-eq0 g t c =
@@ -28,8 +32,8 @@ follows-returns-then-depth-eq0 g t c =
 pub follows-loop-place-init : goal.follows-loop-place-init
 follows-loop-place-init g t c =
     let s = g.C.InferCtxtLike.state c.args.ctx.now in
-    search_begins g.C.InferCtxtLike.state g.C.KeepsRecord.with_record s c.args.rules.now c.args.param_env c.args.goal.now c.args.ctx.now
-    (back_itself s c.requires.may.lawful)
+    search_begins g.C.InferCtxtLike.state g.C.KeepsRecord.with_record s c.args.rules.now c.args.param_env c.args.goal.now
+    c.comes_to_one.new.ctx c.in_ok-enough.ensures.back
 
 pub follows-try_and_put_back-requires : goal.follows-try_and_put_back-requires
 follows-try_and_put_back-requires g t c κs within =
@@ -60,12 +64,40 @@ follows-loop-place-preserved g t c =
     (search_goes_on g.C.InferCtxtLike.state g.C.KeepsRecord.with_record s c.args.rules.now c.args.param_env c.args.goal.now
     c.loop-place.ctx c.try_and_put_back.new.ctx c.loop-place.place c.index-rules-place.result c.loop-place-test.true
     c.index-rules-place.is c.requires.may.env_known c.requires.may.rules c.requires.goal inv.back c.in_ok-tried.ensures.back
-    c.comes_to_one-enough.result (λ e. comes_to_one s.store (goal_tree s c.args.goal.now) c.comes_to_one-enough.result
-    c.requires.goal.is_in c.comes_to_one-enough.ensures e) c.loop-place.search c.in_ok-tried.tried inv.tells
+    c.in_ok-enough.enough c.in_ok-enough.ensures.one c.loop-place.search c.in_ok-tried.tried inv.tells
     c.in_ok-tried.ensures.tells)
 
+-- No other rule counts.
 pub follows-settle-requires : goal.follows-settle-requires
 follows-settle-requires g t c =
+    let s = g.C.InferCtxtLike.state c.args.ctx.now in
+    let over = search_ends g.C.InferCtxtLike.state g.C.KeepsRecord.with_record s c.args.rules.now c.args.param_env c.args.goal.now
+    c.loop-place.ctx c.loop-place.place c.in_ok-enough.enough c.in_ok-enough.ensures.one c.loop-place.search
+    (sym c.is_over.ensures ∙ c.if-is_over.true) c.loop-place.invariant in
+    record {
+      may = may_settle g.C.InferCtxtLike.state g.C.KeepsRecord.with_record s c.args.rules.now c.args.param_env c.args.goal.now
+          g.met.C.KeepsRecord.stands g.met.C.InferCtxtLike.sound c.loop-place.ctx (length c.args.rules.now) (omega arith)
+          c.loop-place.search over.tells;
+    }
+
+pub follows-returns-then-is_over : goal.follows-returns-then-is_over
+follows-returns-then-is_over g t c =
+    let s = g.C.InferCtxtLike.state c.args.ctx.now in
+    let over = search_ends g.C.InferCtxtLike.state g.C.KeepsRecord.with_record s c.args.rules.now c.args.param_env c.args.goal.now
+    c.loop-place.ctx c.loop-place.place c.in_ok-enough.enough c.in_ok-enough.ensures.one c.loop-place.search
+    (sym c.is_over.ensures ∙ c.if-is_over.true) c.loop-place.invariant in
+    record {
+      goes_on = settles_goes g.C.InferCtxtLike.state g.C.KeepsRecord.with_record s c.args.rules.now c.args.param_env c.args.goal.now
+          g.met.C.KeepsRecord.stands g.met.C.InferCtxtLike.sound c.loop-place.ctx (length c.args.rules.now) (omega arith)
+          c.loop-place.search over c.settle.new.ctx c.settle.ensures.leaves;
+      tells = settles_tells g.C.InferCtxtLike.state g.C.KeepsRecord.with_record s c.args.rules.now c.args.param_env c.args.goal.now
+          g.met.C.KeepsRecord.stands g.met.C.InferCtxtLike.sound c.loop-place.ctx (length c.args.rules.now) (omega arith)
+          c.loop-place.search over c.settle.new.ctx c.settle.ensures.leaves c.settle.result c.settle.ensures.told;
+    }
+
+-- All rules were tried.
+pub follows-settle-requires-2 : goal.follows-settle-requires-2
+follows-settle-requires-2 g t c =
     let s = g.C.InferCtxtLike.state c.args.ctx.now in
     let test = c.loop-place-test.false in
     record {
@@ -82,10 +114,10 @@ follows-returns g t c =
     record {
       goes_on = settles_goes g.C.InferCtxtLike.state g.C.KeepsRecord.with_record s c.args.rules.now c.args.param_env c.args.goal.now
           g.met.C.KeepsRecord.stands g.met.C.InferCtxtLike.sound c.loop-place.ctx c.loop-place.place all c.loop-place.search
-          c.loop-place.invariant c.settle.new.ctx c.settle.ensures.leaves;
+          c.loop-place.invariant c.settle-2.new.ctx c.settle-2.ensures.leaves;
       tells = settles_tells g.C.InferCtxtLike.state g.C.KeepsRecord.with_record s c.args.rules.now c.args.param_env c.args.goal.now
           g.met.C.KeepsRecord.stands g.met.C.InferCtxtLike.sound c.loop-place.ctx c.loop-place.place all c.loop-place.search
-          c.loop-place.invariant c.settle.new.ctx c.settle.ensures.leaves c.settle.result c.settle.ensures.told;
+          c.loop-place.invariant c.settle-2.new.ctx c.settle-2.ensures.leaves c.settle-2.result c.settle-2.ensures.told;
     }
 
 -- A rule that is tried, and the record put back.

@@ -22,7 +22,7 @@ decreases-one_follows g l = 5 * l.depth + 1
 -- By the rules so far this is known.
 abbrev pub invariant-follows-loop-place : goal.invariant-follows-loop-place
 invariant-follows-loop-place g l = Searches g.C.InferCtxtLike.state g.C.KeepsRecord.with_record
-    (g.C.InferCtxtLike.state l.initial.ctx) l.rules l.param_env l.goal l.ctx l.place l.search
+    (g.C.InferCtxtLike.state l.fn.ctx) l.rules l.param_env l.goal l.ctx l.place l.search
 
 -- What is left to ask answers the whole list.
 abbrev pub invariant-all_follow-rounds : goal.invariant-all_follow-rounds
