@@ -160,6 +160,9 @@ def line(case, number):
 
 
 def told(answer):
+    """Gives the verdict of an answer, without what it names beside."""
+    verdict = re.match(r"(yes|no)(?= by |: )", answer)
+    answer = verdict[1] if verdict else answer
     return {"maybe: ambiguous": AMBIGUOUS, "maybe: depth": DEEP, "budget": DEEP}.get(answer, answer)
 
 

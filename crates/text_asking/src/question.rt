@@ -15,6 +15,7 @@ use crate::elaborating::{ask_elaborated, ask_supertrait_ids, ask_supertraits, to
 use crate::environment::environment_for;
 use crate::fits::{Fit, fit_at};
 use crate::folding::{fold, puts_at};
+use crate::impls::{Bound, ask_whole_impls};
 use crate::lists::ask_args_related;
 use crate::outliving::{ask_assumptions, ask_components};
 use crate::proving::ask_proved;
@@ -38,7 +39,9 @@ use relation_terms::terms::{
 use relation_tools::outlives::Component;
 use std::alloc::{AllocError, Global};
 use text_elaboration::pulls::{Manner, Pulled};
+use text_proving::impls::Impls;
 use text_proving::proving::WhyNot as WhyUnproved;
+use text_proving::sources::Source;
 use text_reading::naming::{Clause, Impl, Method, Parts, Put, Question, QuestionKind, Variables};
 use text_reading::reading::Relation;
 use text_terms::building::{key_at, keys_at, ty_at};
@@ -60,7 +63,7 @@ pub(super) struct Ready<'a, I: Interner> {
     pub clauses: &'a [Clause],
     // The methods of tables.
     pub methods: &'a [Method],
-    // The impls that goals may follow from.
+    // The rules of the impls that goals may follow from.
     pub impls: &'a [Impl],
     pub ids: &'a [I::Id],
     pub names: &'a [I::Name],
@@ -114,8 +117,10 @@ pub(super) enum Answer<R, K, X: Copy, D, N> {
     // Of two impls of a trait.
     Overlap(TraitId<D>, Result<Overlap<X, D, N>, RelateFault<X, D, N>>),
     Methods(Vec<N>),
-    // Of a goal.
-    Proved(Result<Told<X>, RelateFault<X, D, N>>),
+    // Of two impls with what each asks for, and which bound tells them apart if one does.
+    Impls(Result<Impls, RelateFault<X, D, N>>, Option<Bound>),
+    // Of a goal, and of which statement the rule is that this names.
+    Proved(Result<Told<X>, RelateFault<X, D, N>>, Option<Source>),
 }
 
 // What is answered to a question over an interner.
@@ -415,6 +420,12 @@ fn ask<I: SizedKeys>(ctx: &mut RefCtxt<I>, terms: &Ready<I>, question: &Question
         QuestionKind::Overlap { left, right } => {
             ask_impls_overlap(ctx, terms, question.assumed, left, right)
         }
+        QuestionKind::ImplsOverlap {
+            left,
+            right,
+            impls,
+            depth,
+        } => ask_whole_impls(ctx, terms, question.assumed, left, right, impls, depth),
         QuestionKind::Methods { methods, of } => ask_methods(ctx, terms, methods, of),
         QuestionKind::Prove { goal, impls, depth } => {
             ask_proved(ctx, terms, question.assumed, goal, impls, depth)

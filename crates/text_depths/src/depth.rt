@@ -119,6 +119,7 @@ fn relates(program: &Program) -> bool {
             QuestionKind::Relate { .. }
                 | QuestionKind::RelateArgs { .. }
                 | QuestionKind::Overlap { .. }
+                | QuestionKind::ImplsOverlap { .. }
                 | QuestionKind::Prove { .. }
         ) {
             return true;

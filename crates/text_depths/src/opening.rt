@@ -52,8 +52,9 @@ pub(super) fn opened_levels(
     kind: &QuestionKind,
     budget: usize,
 ) -> Result<usize, AllocError> {
-    let QuestionKind::Prove { impls, .. } = *kind else {
-        return Ok(0);
+    let impls = match *kind {
+        QuestionKind::Prove { impls, .. } | QuestionKind::ImplsOverlap { impls, .. } => impls,
+        _ => return Ok(0),
     };
     let levels = levels_of(alloc, program)?;
     let mut most = 0usize;

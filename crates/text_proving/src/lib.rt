@@ -4,6 +4,7 @@
 
 mod closed;
 pub mod implied;
+pub mod impls;
 pub mod proving;
 mod refusing;
 pub mod rules;
