@@ -19,7 +19,9 @@ use crate::impls::{Bound, ask_whole_impls};
 use crate::lists::ask_args_related;
 use crate::outliving::{ask_assumptions, ask_components};
 use crate::proving::ask_proved;
-use crate::quick::{KeyOf, ask_args_may_unify, ask_key, ask_may_unify};
+use crate::quick::{
+    KeyOf, ask_args_may_unify, ask_escapes, ask_infers, ask_key, ask_may_unify, ask_rigid,
+};
 use crate::regions::ask_regions;
 use crate::roots::{ask_binding, ask_one};
 use crate::sized_keys::SizedKeys;
@@ -28,7 +30,6 @@ use crate::walking::numbers_at;
 use may_relate::Unfit;
 use relation_coherence::overlap::Overlap;
 use relation_folds::error::RelateFault;
-use relation_folds::visit::{has_escaping_bound_vars, has_non_region_infer, is_known_rigid};
 use relation_proving::proving::Told;
 use relation_reference::context::RefCtxt;
 use relation_regions::Solved;
@@ -218,7 +219,7 @@ fn ask_related<I: Interner>(
 }
 
 // The term of that number.
-fn term_of<I: Interner>(terms: &Ready<I>, number: usize) -> Result<GenericArg<I>, Unasked>
+pub(super) fn term_of<I: Interner>(terms: &Ready<I>, number: usize) -> Result<GenericArg<I>, Unasked>
     ensures { (m : Meaning I.Key I.Id I.Name) → AllReady m terms.now →
         IfOk result (λ key. IsTrue (known (arg_tree m key))) }
 {
@@ -309,30 +310,6 @@ fn ask_folded<I: Interner>(
         Ok(folded) => Ok(Answer::Folded(folded)),
         Err(_) => Err(Unasked::Memory),
     }
-}
-
-// Whether a variable stands in a term that a binder outside it binds.
-fn ask_escapes<I: Interner>(cx: &I, terms: &Ready<I>, number: usize) -> Result<bool, Unasked>
-    requires { AllReady (I.meaning cx.now) terms.now }
-{
-    let term = term_of(terms, number)?;
-    Ok(has_escaping_bound_vars(cx, &term))
-}
-
-// Whether a variable that is no region stands in a term.
-fn ask_infers<I: Interner>(cx: &I, terms: &Ready<I>, number: usize) -> Result<bool, Unasked>
-    requires { AllReady (I.meaning cx.now) terms.now }
-{
-    let term = term_of(terms, number)?;
-    Ok(has_non_region_infer(cx, &term))
-}
-
-// Whether a type's outermost form stays what it is.
-fn ask_rigid<I: Interner>(cx: &I, terms: &Ready<I>, number: usize) -> Result<bool, Unasked>
-    requires { AllReady (I.meaning cx.now) terms.now }
-{
-    let ty = type_of(terms, number)?;
-    Ok(is_known_rigid(cx, &ty))
 }
 
 // Whether something holds, as an answer.
