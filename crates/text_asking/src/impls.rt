@@ -124,7 +124,14 @@ pub(super) fn ask_whole_impls<I: Interner>(
     let Some(pair) = pair_of(&mut ctx.interner, terms, assumed, left, right, impls) else {
         return Err(Unasked::Memory);
     };
-    match ask_impls(ctx, &pair.rules, pair.param_env, pair.left, pair.right, depth) {
+    match ask_impls(
+        ctx,
+        &pair.rules,
+        pair.param_env,
+        pair.left,
+        pair.right,
+        depth,
+    ) {
         Ok(told) => {
             let bound = bound_named(terms, left, right, &told);
             Ok(Answer::Impls(told, bound))

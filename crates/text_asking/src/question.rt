@@ -219,7 +219,10 @@ fn ask_related<I: Interner>(
 }
 
 // The term of that number.
-pub(super) fn term_of<I: Interner>(terms: &Ready<I>, number: usize) -> Result<GenericArg<I>, Unasked>
+pub(super) fn term_of<I: Interner>(
+    terms: &Ready<I>,
+    number: usize,
+) -> Result<GenericArg<I>, Unasked>
     ensures { (m : Meaning I.Key I.Id I.Name) → AllReady m terms.now →
         IfOk result (λ key. IsTrue (known (arg_tree m key))) }
 {

@@ -20,7 +20,11 @@ use text_terms::printing::{TextsOf, float_name, int_name, uint_name, write_item_
 pub(super) type KeyOf<I> = Option<SimplifiedType<ItemOf<I>>>;
 
 // Whether a variable stands in a term that a binder outside it binds.
-pub(super) fn ask_escapes<I: Interner>(cx: &I, terms: &Ready<I>, number: usize) -> Result<bool, Unasked>
+pub(super) fn ask_escapes<I: Interner>(
+    cx: &I,
+    terms: &Ready<I>,
+    number: usize,
+) -> Result<bool, Unasked>
     requires { AllReady (I.meaning cx.now) terms.now }
 {
     let term = term_of(terms, number)?;
@@ -28,7 +32,11 @@ pub(super) fn ask_escapes<I: Interner>(cx: &I, terms: &Ready<I>, number: usize) 
 }
 
 // Whether a variable that is no region stands in a term.
-pub(super) fn ask_infers<I: Interner>(cx: &I, terms: &Ready<I>, number: usize) -> Result<bool, Unasked>
+pub(super) fn ask_infers<I: Interner>(
+    cx: &I,
+    terms: &Ready<I>,
+    number: usize,
+) -> Result<bool, Unasked>
     requires { AllReady (I.meaning cx.now) terms.now }
 {
     let term = term_of(terms, number)?;
@@ -36,7 +44,11 @@ pub(super) fn ask_infers<I: Interner>(cx: &I, terms: &Ready<I>, number: usize) -
 }
 
 // Whether a type's outermost form stays what it is.
-pub(super) fn ask_rigid<I: Interner>(cx: &I, terms: &Ready<I>, number: usize) -> Result<bool, Unasked>
+pub(super) fn ask_rigid<I: Interner>(
+    cx: &I,
+    terms: &Ready<I>,
+    number: usize,
+) -> Result<bool, Unasked>
     requires { AllReady (I.meaning cx.now) terms.now }
 {
     let ty = type_of(terms, number)?;

@@ -20,10 +20,10 @@ loop-clause-preserved g c =
 
 pub returns-then-gives : goal.returns-then-gives
 returns-then-gives g c = (
-    c.clause-item.result,
-    (c.loop-clause.clause-index, c.loop-clause-test.true, sym c.clause-item.is),
-    c.gives.ensures.yes c.if-gives.true,
-  )
+  c.clause-item.result,
+  (c.loop-clause.clause-index, c.loop-clause-test.true, sym c.clause-item.is),
+  c.gives.ensures.yes c.if-gives.true,
+)
 
 pub returns : goal.returns
 returns g c = λ one.
