@@ -16,7 +16,7 @@ use relation_folds::error::{RelateFault, RelateResult};
 pub use relation_impls::impls::{Impls, WhyApart};
 use relation_impls::impls::{Why, impls_overlap};
 use relation_proving::opening::RuleOf;
-use relation_terms::terms::ParamEnv;
+use relation_terms::terms::{Interner, ParamEnv};
 
 /// What comes of asking whether two impls overlap.
 pub type ImplsResult<I> = RelateResult<I, Impls>;
