@@ -1,5 +1,5 @@
-//! What a text's impls imply, and what it assumes: rules that are made of clauses, and whether a goal follows from them
-//! where that may be asked.
+//! What a text's impls imply, and what it assumes: rules that are made of clauses; whether a goal follows from them, and
+//! whether two impls overlap, where that may be asked.
 #![tactic(auto)]
 
 mod closed;
