@@ -1,8 +1,17 @@
--- What is asked whether it follows stays known.
+-- What is asked whether it follows stays known, and what is told of it is.
+use Rattle.std.proofs.Common.{List, Some, None}
+use Rattle.std.specs.Prelude.{Result, Ok, Err}
+use Rattle.relation_terms.specs.declared.terms.binder.Binder.{Binder}
+use Rattle.relation_terms.specs.declared.terms.keys.ClauseKey.{ClauseKey}
+use Rattle.relation_terms.specs.declared.terms.keys.ClausesKey.{ClausesKey}
 use Rattle.relation_terms.specs.Meaning.{Meaning, Extends}
 use Rattle.relation_terms.proofs.Stays.{knows_clause, knows_param_env}
+use Rattle.relation_semantics.specs.Contexts.{Context}
+use Rattle.relation_proving.specs.Answers.{NoNamesKnown}
+use Rattle.relation_proving.specs.declared.told.Told.{Told}
+use Rattle.relation_proving.specs.declared.told.Told.TheVariants.{Yes, No, Maybe}
 use Rattle.text_proving.proofs.Making.{rules_later}
-use Rattle.text_asking.specs.Proofs.{KnowsProof}
+use Rattle.text_asking.specs.Proofs.{KnowsProof, KnowsTold}
 use Rattle.text_asking.specs.declared.proving.Proof.{Proof}
 
 pub proof_later : {Key Id Name : Type 0} {m n : Meaning Key Id Name} → Extends m n → (p : Proof Key) →
@@ -12,3 +21,12 @@ proof_later e p h = record {
   env = knows_param_env e p.param_env h.env;
   goal = knows_clause e p.goal h.goal;
 }
+
+-- What a no names is known.
+pub told_known : {Key Id Name F : Type 0} (c d : Context Key Id Name) (ks : List (Binder Key (ClausesKey Key)))
+    (g : ClauseKey Key) (told : Result (Told Key) F) → NoNamesKnown c d ks g told → KnowsTold d.meaning told
+told_known c d ks g (Ok (Yes i)) h = tt
+told_known c d ks g (Ok (No None)) h = tt
+told_known c d ks g (Ok (No (Some b))) h = h.is_known
+told_known c d ks g (Ok (Maybe why)) h = tt
+told_known c d ks g (Err f) h = tt

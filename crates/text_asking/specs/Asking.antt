@@ -37,12 +37,13 @@ use Rattle.text_asking.specs.declared.question.Ready.{Ready}
 use Rattle.text_asking.specs.declared.question.Answer.{Answer}
 use Rattle.text_asking.specs.declared.question.Answer.TheVariants.{Related, Met, Walked, Components, Folded, Is}
 use Rattle.text_asking.specs.declared.question.Answer.TheVariants.{Assumed, Key as key, Pulls, Binding, Overlap, Methods}
-use Rattle.text_asking.specs.declared.question.Answer.TheVariants.{Solved, Proved}
+use Rattle.text_asking.specs.declared.question.Answer.TheVariants.{Solved, Proved, Impls}
 use Rattle.outlives_assumptions.specs.Assumptions.{IsKnown}
 use Rattle.text_asking.specs.Meets.{AllKnown}
 use Rattle.text_terms.specs.Built.{AreKnown}
 use Rattle.text_elaboration.specs.Pulls.{KnowsPulled}
 use Rattle.text_asking.specs.Outlives.{KnowsComponents}
+use Rattle.text_asking.specs.Proofs.{KnowsTold}
 use Rattle.text_users.specs.Solved.{KnowsSolved}
 
 -- Each key that questions are put over is known.
@@ -142,7 +143,8 @@ KnowsAnswer m Knows (Binding b) = IfSome b (λ a. IsTrue (known (arg_tree m a)))
 KnowsAnswer m Knows (Solved s) = KnowsSolved m s
 KnowsAnswer m Knows (Overlap of told) = KnowsOverlap m told
 KnowsAnswer m Knows (Methods names) = Unit {0}
-KnowsAnswer m Knows (Proved told) = Unit {0}
+KnowsAnswer m Knows (Impls told bound) = Unit {0}
+KnowsAnswer m Knows (Proved told source) = KnowsTold m told
 
 -- What variables are bound to is known.
 abbrev pub AreBoundKnown : {K : Type 0} → (K → Tree) → List (Variable K) → Type 0

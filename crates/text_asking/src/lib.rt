@@ -14,6 +14,7 @@ mod elaborating;
 mod environment;
 mod fits;
 mod folding;
+mod impls;
 mod lists;
 mod outliving;
 pub mod printing;

@@ -5,19 +5,22 @@ ghost use Rattle.relation_terms.specs.Meaning.{Extends};
 ghost use Rattle.text_proving.specs.Made.{KnowsClause, KnowsMade};
 ghost use Rattle.variable_tables.specs.Tables.{IsLawful};
 ghost use Rattle.text_asking.specs.Asking.{AllReady, KnowsAnswer, KnowsRelated};
-ghost use Rattle.text_asking.specs.Proofs.{KnowsProof};
+ghost use Rattle.text_asking.specs.Proofs.{KnowsProof, KnowsTold};
 
 use crate::elaborating::clauses_of;
 use crate::environment::environment_of;
 use crate::fits::have_named;
 use crate::printing::{write_bound, write_constraints, write_tainted};
 use crate::question::{Answer, Outcome, Ready, Unasked};
+use relation_proving::proving::Told;
 use relation_reference::context::RefCtxt;
 use relation_terms::terms::{Binder, Clause, ClauseKey, ClausesKey, Interner, Keys, ParamEnvKey};
 use std::fmt::{self, Write};
 use text_clauses::building::build_clause;
-use text_proving::proving::{ProofResult, ask_proof, proof_text};
+use text_clauses::printing::write_clause;
+use text_proving::proving::{ProofResult, ask_proof, place_named, proof_text};
 use text_proving::rules::{RuleOf, rule_of, rules_held};
+use text_proving::sources::{Source, source_held, write_source};
 use text_reading::naming::{Impl, Parts};
 use text_terms::building::variables_at;
 use text_terms::printing::TextsOf;
@@ -43,8 +46,8 @@ fn goal_of<I: Interner>(cx: &mut I, terms: &Ready<I>, number: usize) -> Option<C
     build_clause(cx, terms.ids, terms.names, terms.parts, terms.built, clause)
 }
 
-// The rule of an impl of a program.
-fn rule_at<I: Interner>(cx: &mut I, terms: &Ready<I>, said: &Impl) -> Option<RuleOf<I>>
+// A rule of an impl of a program.
+pub(super) fn rule_at<I: Interner>(cx: &mut I, terms: &Ready<I>, said: &Impl) -> Option<RuleOf<I>>
     requires { AllReady (I.meaning cx.old) terms.now }
     ensures grown { Extends (I.meaning cx.old) (I.meaning cx.new) }
     ensures sure { IfSome result (KnowsMade (I.meaning cx.new)) }
@@ -70,8 +73,8 @@ fn held_of<I: Interner>(cx: &mut I, terms: &Ready<I>, assumed: Parts) -> Option<
     }
 }
 
-// The rules of what is assumed, and those of a program's first impls.
-fn rules_of<I: Interner>(
+// The rules of what is assumed, and the first ones of a program's impls.
+pub(super) fn rules_of<I: Interner>(
     cx: &mut I,
     terms: &Ready<I>,
     assumed: Parts,
@@ -92,7 +95,7 @@ fn rules_of<I: Interner>(
     Some(made)
 }
 
-// What a question asks: the number of the goal's predicate, and how many impls stand before it.
+// What a question asks: the number of the goal's predicate, and how many rules of impls stand before it.
 fn proof_of<I: Interner>(
     cx: &mut I,
     terms: &Ready<I>,
@@ -116,8 +119,42 @@ fn proof_of<I: Interner>(
     })
 }
 
-// Asks in a context whether a predicate follows within a depth, by its number, from a program's first impls and from
-// what is assumed.
+// Of which statement the rule at a place is. Those of the program's first impls, so many, are the last ones.
+fn source_at<I: Interner>(
+    cx: &I,
+    terms: &Ready<I>,
+    proof: &ProofOf<I>,
+    impls: usize,
+    place: usize,
+) -> Option<Source>
+    requires { KnowsProof (I.meaning cx.now) proof.now }
+{
+    let held = proof.rules.len().saturating_sub(impls);
+    if place >= held {
+        let rule = terms.impls.get(place - held)?;
+        return Some(Source::Impl(rule.number));
+    }
+    let rule = proof.rules.get(place)?;
+    let assumed = cx.caller_bounds(&proof.param_env);
+    Some(source_held(cx, rule, cx.clauses(&assumed)))
+}
+
+// Of which statement the rule is that an answer names, if it names one.
+fn source_named<I: Interner>(
+    cx: &I,
+    terms: &Ready<I>,
+    proof: &ProofOf<I>,
+    impls: usize,
+    told: &ProofResult<I>,
+) -> Option<Source>
+    requires { KnowsProof (I.meaning cx.now) proof.now }
+{
+    let place = place_named::<I>(told)?;
+    source_at(cx, terms, proof, impls, place)
+}
+
+// Asks in a context whether a predicate follows within a depth, by its number, from the first rules of a program's impls
+// and from what is assumed.
 pub(super) fn ask_proved<I: Interner>(
     ctx: &mut RefCtxt<I>,
     terms: &Ready<I>,
@@ -140,22 +177,52 @@ pub(super) fn ask_proved<I: Interner>(
         return Err(Unasked::Memory);
     };
     match ask_proof(ctx, &proof.rules, proof.param_env, &proof.goal, depth) {
-        Ok(told) => Ok(Answer::Proved(told)),
+        Ok(told) => {
+            let source = source_named(&ctx.interner, terms, &proof, impls, &told);
+            Ok(Answer::Proved(told, source))
+        }
         Err(why) => Err(Unasked::Proof(why)),
     }
 }
 
-// Writes what is told of a goal, and then what the context has recorded: constraints on regions, and roots that are
-// bound.
+// Writes by which statement a goal follows; or which goal failed, and which statement asked for it.
+fn write_why<I: Interner, W: Write>(
+    cx: &I,
+    texts: &TextsOf<I>,
+    told: &ProofResult<I>,
+    source: Source,
+    out: &mut W,
+) -> fmt::Result
+    requires { KnowsTold (I.meaning cx.now) told.now }
+{
+    match told {
+        Ok(Told::Yes(_)) => out.write_str(" by ")?,
+        Ok(Told::No(Some(blame))) => {
+            out.write_str(": ")?;
+            write_clause(cx, texts, &blame.goal, out)?;
+            out.write_str(", asked by ")?;
+        }
+        _ => return Ok(()),
+    }
+    write_source(source, out)
+}
+
+// Writes what is told of a goal and why, and then what the context has recorded: constraints on regions, and roots that
+// are bound.
 pub(super) fn write_proved<I: Interner, W: Write>(
     ctx: &RefCtxt<I>,
     texts: &TextsOf<I>,
     told: &ProofResult<I>,
+    source: Option<Source>,
     out: &mut W,
 ) -> fmt::Result
-    requires { IsLawful (I.meaning ctx.now.interner) ctx.now.inner }
+    requires lawful { IsLawful (I.meaning ctx.now.interner) ctx.now.inner }
+    requires known { KnowsTold (I.meaning ctx.now.interner) told.now }
 {
     out.write_str(proof_text::<I>(told))?;
+    if let Some(source) = source {
+        write_why(&ctx.interner, texts, told, source, out)?;
+    }
     write_constraints(ctx, texts, out)?;
     write_bound(ctx, texts, out)?;
     write_tainted(ctx, out)

@@ -15,10 +15,13 @@ use crate::elaborating::{ask_elaborated, ask_supertrait_ids, ask_supertraits, to
 use crate::environment::environment_for;
 use crate::fits::{Fit, fit_at};
 use crate::folding::{fold, puts_at};
+use crate::impls::{Bound, ask_whole_impls};
 use crate::lists::ask_args_related;
 use crate::outliving::{ask_assumptions, ask_components};
 use crate::proving::ask_proved;
-use crate::quick::{KeyOf, ask_args_may_unify, ask_key, ask_may_unify};
+use crate::quick::{
+    KeyOf, ask_args_may_unify, ask_escapes, ask_infers, ask_key, ask_may_unify, ask_rigid,
+};
 use crate::regions::ask_regions;
 use crate::roots::{ask_binding, ask_one};
 use crate::sized_keys::SizedKeys;
@@ -27,7 +30,6 @@ use crate::walking::numbers_at;
 use may_relate::Unfit;
 use relation_coherence::overlap::Overlap;
 use relation_folds::error::RelateFault;
-use relation_folds::visit::{has_escaping_bound_vars, has_non_region_infer, is_known_rigid};
 use relation_proving::proving::Told;
 use relation_reference::context::RefCtxt;
 use relation_regions::Solved;
@@ -38,7 +40,9 @@ use relation_terms::terms::{
 use relation_tools::outlives::Component;
 use std::alloc::{AllocError, Global};
 use text_elaboration::pulls::{Manner, Pulled};
+use text_proving::impls::Impls;
 use text_proving::proving::WhyNot as WhyUnproved;
+use text_proving::sources::Source;
 use text_reading::naming::{Clause, Impl, Method, Parts, Put, Question, QuestionKind, Variables};
 use text_reading::reading::Relation;
 use text_terms::building::{key_at, keys_at, ty_at};
@@ -60,7 +64,7 @@ pub(super) struct Ready<'a, I: Interner> {
     pub clauses: &'a [Clause],
     // The methods of tables.
     pub methods: &'a [Method],
-    // The impls that goals may follow from.
+    // The rules of the impls that goals may follow from.
     pub impls: &'a [Impl],
     pub ids: &'a [I::Id],
     pub names: &'a [I::Name],
@@ -114,8 +118,10 @@ pub(super) enum Answer<R, K, X: Copy, D, N> {
     // Of two impls of a trait.
     Overlap(TraitId<D>, Result<Overlap<X, D, N>, RelateFault<X, D, N>>),
     Methods(Vec<N>),
-    // Of a goal.
-    Proved(Result<Told<X>, RelateFault<X, D, N>>),
+    // Of two impls with what each asks for, and which bound tells them apart if one does.
+    Impls(Result<Impls, RelateFault<X, D, N>>, Option<Bound>),
+    // Of a goal, and of which statement the rule is that this names.
+    Proved(Result<Told<X>, RelateFault<X, D, N>>, Option<Source>),
 }
 
 // What is answered to a question over an interner.
@@ -213,7 +219,10 @@ fn ask_related<I: Interner>(
 }
 
 // The term of that number.
-fn term_of<I: Interner>(terms: &Ready<I>, number: usize) -> Result<GenericArg<I>, Unasked>
+pub(super) fn term_of<I: Interner>(
+    terms: &Ready<I>,
+    number: usize,
+) -> Result<GenericArg<I>, Unasked>
     ensures { (m : Meaning I.Key I.Id I.Name) → AllReady m terms.now →
         IfOk result (λ key. IsTrue (known (arg_tree m key))) }
 {
@@ -306,30 +315,6 @@ fn ask_folded<I: Interner>(
     }
 }
 
-// Whether a variable stands in a term that a binder outside it binds.
-fn ask_escapes<I: Interner>(cx: &I, terms: &Ready<I>, number: usize) -> Result<bool, Unasked>
-    requires { AllReady (I.meaning cx.now) terms.now }
-{
-    let term = term_of(terms, number)?;
-    Ok(has_escaping_bound_vars(cx, &term))
-}
-
-// Whether a variable that is no region stands in a term.
-fn ask_infers<I: Interner>(cx: &I, terms: &Ready<I>, number: usize) -> Result<bool, Unasked>
-    requires { AllReady (I.meaning cx.now) terms.now }
-{
-    let term = term_of(terms, number)?;
-    Ok(has_non_region_infer(cx, &term))
-}
-
-// Whether a type's outermost form stays what it is.
-fn ask_rigid<I: Interner>(cx: &I, terms: &Ready<I>, number: usize) -> Result<bool, Unasked>
-    requires { AllReady (I.meaning cx.now) terms.now }
-{
-    let ty = type_of(terms, number)?;
-    Ok(is_known_rigid(cx, &ty))
-}
-
 // Whether something holds, as an answer.
 fn whether<I: Interner>(cx: &I, asked: Result<bool, Unasked>) -> Outcome<I>
     ensures { let m = I.meaning cx.now in
@@ -415,6 +400,12 @@ fn ask<I: SizedKeys>(ctx: &mut RefCtxt<I>, terms: &Ready<I>, question: &Question
         QuestionKind::Overlap { left, right } => {
             ask_impls_overlap(ctx, terms, question.assumed, left, right)
         }
+        QuestionKind::ImplsOverlap {
+            left,
+            right,
+            impls,
+            depth,
+        } => ask_whole_impls(ctx, terms, question.assumed, left, right, impls, depth),
         QuestionKind::Methods { methods, of } => ask_methods(ctx, terms, methods, of),
         QuestionKind::Prove { goal, impls, depth } => {
             ask_proved(ctx, terms, question.assumed, goal, impls, depth)

@@ -6,7 +6,8 @@ ghost use Rattle.variable_tables.specs.Tables.{IsLawful};
 ghost use Rattle.text_asking.specs.Asking.{AllReady, KnowsAnswer, KnowsRelated};
 
 use crate::lists::args_of;
-use crate::question::{Answer, Outcome, Ready, Unasked, type_of};
+use crate::question::{Answer, Outcome, Ready, Unasked, term_of, type_of};
+use relation_folds::visit::{has_escaping_bound_vars, has_non_region_infer, is_known_rigid};
 use relation_reference::context::RefCtxt;
 use relation_terms::terms::{Interner, ItemOf, Mutability, Ty};
 use relation_tools::fast_reject::{DeepRejectCtxt, SimplifiedType, TreatParams, simplify_type};
@@ -17,6 +18,42 @@ use text_terms::printing::{TextsOf, float_name, int_name, uint_name, write_item_
 
 // The key of a type over an interner, if it has one.
 pub(super) type KeyOf<I> = Option<SimplifiedType<ItemOf<I>>>;
+
+// Whether a variable stands in a term that a binder outside it binds.
+pub(super) fn ask_escapes<I: Interner>(
+    cx: &I,
+    terms: &Ready<I>,
+    number: usize,
+) -> Result<bool, Unasked>
+    requires { AllReady (I.meaning cx.now) terms.now }
+{
+    let term = term_of(terms, number)?;
+    Ok(has_escaping_bound_vars(cx, &term))
+}
+
+// Whether a variable that is no region stands in a term.
+pub(super) fn ask_infers<I: Interner>(
+    cx: &I,
+    terms: &Ready<I>,
+    number: usize,
+) -> Result<bool, Unasked>
+    requires { AllReady (I.meaning cx.now) terms.now }
+{
+    let term = term_of(terms, number)?;
+    Ok(has_non_region_infer(cx, &term))
+}
+
+// Whether a type's outermost form stays what it is.
+pub(super) fn ask_rigid<I: Interner>(
+    cx: &I,
+    terms: &Ready<I>,
+    number: usize,
+) -> Result<bool, Unasked>
+    requires { AllReady (I.meaning cx.now) terms.now }
+{
+    let ty = type_of(terms, number)?;
+    Ok(is_known_rigid(cx, &ty))
+}
 
 // Whether two types may unify by a test, as far as a depth goes if one is given.
 fn test_types<I: Interner, const LEFT: bool, const RIGHT: bool>(

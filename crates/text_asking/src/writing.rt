@@ -10,6 +10,7 @@ use crate::coherence::{write_methods, write_overlap};
 use crate::context::write_not_asked;
 use crate::counts::write_counted;
 use crate::elaborating::write_lowered;
+use crate::impls::write_impls;
 use crate::outliving::{write_assumptions, write_components};
 use crate::printing::write_answer;
 use crate::proving::write_proved;
@@ -23,7 +24,7 @@ use relation_terms::terms::{GenericArg, Interner};
 use std::fmt::{self, Write};
 use text_depths::Bounded;
 use text_elaboration::pulls::write_pulls;
-use text_proving::proving::write_unasked;
+use text_proving::proving::unasked_text;
 use text_terms::printing::{TextsOf, write_arg};
 use text_users::overlapping::write_why_not;
 use text_users::write_solved;
@@ -106,8 +107,12 @@ fn write_given<I: Interner, W: Write>(
             write_left(ctx, asked, out)
         }
         Answer::Methods(names) => write_methods::<I, W>(texts, names, out),
-        Answer::Proved(told) => {
-            write_proved(ctx, texts, told, out)?;
+        Answer::Impls(told, bound) => {
+            write_impls::<I, W>(told, *bound, out)?;
+            write_left(ctx, asked, out)
+        }
+        Answer::Proved(told, source) => {
+            write_proved(ctx, texts, told, *source, out)?;
             write_left(ctx, asked, out)
         }
     }
@@ -129,7 +134,7 @@ fn write_outcome<I: Interner, W: Write>(
         Err(Unasked::Memory) => out.write_str("memory"),
         Err(Unasked::NotAsked(why)) => write_not_asked(*why, ctx.inner.universe.0, out),
         Err(Unasked::Impls(why)) => write_why_not(*why, out),
-        Err(Unasked::Proof(why)) => write_unasked(*why, out),
+        Err(Unasked::Proof(why)) => out.write_str(unasked_text(*why)),
         Ok(answer) => write_given(ctx, texts, asked, answer, out),
     }
 }

@@ -3,9 +3,9 @@ use Rattle.std.proofs.Common.{◌≡◌, ℕ, ◌+◌, ◌<◌, List, [], ◌∷
 use Rattle.std.proofs.Common.{Option, Some, None, IsTrue}
 use Rattle.std.specs.Prelude.{IfNone}
 use Rattle.std.specs.List.{All}
-use Rattle.std.proofs.lemmas.Bool.{and_parts, false≢true}
+use Rattle.std.proofs.lemmas.Bool.{false≢true}
 use Rattle.std.proofs.lemmas.List.{take_more}
-use Rattle.std.proofs.lemmas.List.Elements.{All-push, All-nil, All-cons, All-head, All-tail}
+use Rattle.std.proofs.lemmas.List.Elements.{All-push, All-head, All-tail}
 use Rattle.relation_terms.specs.declared.predicate.kinds.ClauseKind.{ClauseKind}
 use Rattle.relation_terms.specs.declared.terms.binder.Binder.{Binder}
 use Rattle.relation_terms.specs.declared.terms.keys.ClauseKey.{ClauseKey}
@@ -19,6 +19,7 @@ use Rattle.relation_semantics.specs.Relation.{IsValueLeaf}
 use Rattle.relation_semantics.specs.Stores.{Store, InContext, IsTermIn}
 use Rattle.may_relate.specs.Fitting.{MayBeRelated}
 use Rattle.relation_proving.specs.RuleTerms.{KnowsRule}
+use Rattle.relation_proving.proofs.OpenedRules.{each_known}
 use Rattle.text_proving.specs.Asked.{FitsUnder, MayServe}
 
 -- What follows where nothing is answered.
@@ -39,18 +40,12 @@ all_more P xs i x e h so_far p =
     subst (All P) (ap (λ y. take i xs ++ y ∷ []) e ∙ sym (take_more xs i x h)) (All-push P (take i xs) x so_far p)
 
 module _ {K : Type 0} (f : K → Tree) where
-  each_known : (ks : List K) → IsTrue (known (list_tree f ks)) → All (λ k. IsTrue (known (f k))) ks
-  each_known [] h = All-nil (λ k. IsTrue (known (f k)))
-  each_known (k ∷ ks) h =
-      let p = and_parts (known (f k)) (known (list_tree f ks)) h in
-      All-cons (λ k. IsTrue (known (f k))) k ks p.0 (each_known ks p.1)
-
   -- A member of a known list under a binder is known under it.
   pub member_known : (o : Option (List BoundKind)) (t : Tree) (ks : List K) (i : ℕ) (k : K) → k ≡ get_or ks i k →
       i < length ks → t ≡ list_tree f ks → IsTrue (known (under o t)) → IsTrue (known (under o (f k)))
   member_known None t ks i k e h s n = absurd (false≢true n)
   member_known (Some vs) t ks i k e h s n =
-      subst (λ x. IsTrue (known (f x))) (sym e) (each_known ks (subst (λ u. IsTrue (known u)) s n) i k h)
+      subst (λ x. IsTrue (known (f x))) (sym e) (each_known f ks (subst (λ u. IsTrue (known u)) s n) i k h)
 
 -- What is in a context under a binder as a list is so of which each member is.
 nothing_in : (st : Store) (vs : List BoundKind) → IsTermIn st (bind vs nil)

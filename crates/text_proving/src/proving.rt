@@ -8,7 +8,7 @@ ghost use Rattle.relation_semantics.specs.Steps.{IsLater};
 ghost use Rattle.relation_proving.specs.Answers.{YesDerives, YesIsBy, YesMakesFollow, YesLosesNone};
 ghost use Rattle.relation_proving.specs.Answers.{NoFollowsNever, NoNamesKnown, LeavesNothing};
 ghost use Rattle.relation_proving.specs.RuleTerms.{KnowsRule, IsClosedRule};
-ghost use Rattle.text_proving.specs.Texts.{place_named, proof_text};
+ghost use Rattle.text_proving.specs.Texts.{place_named, proof_text, unasked_text};
 
 pub use crate::refusing::WhyNot;
 use crate::refusing::refusal;
@@ -18,7 +18,6 @@ use relation_folds::error::{RelateFault, RelateResult};
 use relation_proving::opening::RuleOf;
 use relation_proving::proving::{Told, ToldOf, Why, prove};
 use relation_terms::terms::{Clause, Interner, ParamEnv};
-use std::fmt::{self, Write};
 
 /// What comes of asking whether a goal follows.
 pub type ProofResult<I> = RelateResult<I, ToldOf<I>>;
@@ -86,12 +85,11 @@ pub fn proof_text<I: Interner>(proof: &ProofResult<I>) -> &'static str
     }
 }
 
-/// Writes why a goal is not asked about, or `memory` where a growth was refused.
-///
-/// # Errors
-/// `fmt::Error` where `out` refused to take some of the text. What it took before stands.
-pub fn write_unasked<W: Write>(why: WhyNot, out: &mut W) -> fmt::Result {
-    out.write_str(match why {
+/// How it is written why a goal is not asked about: `memory` where a growth was refused.
+pub fn unasked_text(why: WhyNot) -> &'static str
+    ensures { result.now ≡ unasked_text why }
+{
+    match why {
         WhyNot::Open => "not asked: a variable stands in an impl or in what is assumed",
         WhyNot::NoTrait => "not asked: it is asked of traits and their types alone",
         WhyNot::Unfit(Unfit::LaterUniverse(_)) => {
@@ -99,5 +97,5 @@ pub fn write_unasked<W: Write>(why: WhyNot, out: &mut W) -> fmt::Result {
         }
         WhyNot::Unfit(Unfit::Memory) => "memory",
         WhyNot::Unfit(_) => "not asked: a binder does not bind by its list",
-    })
+    }
 }

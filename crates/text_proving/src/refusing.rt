@@ -145,3 +145,29 @@ pub(crate) fn refusal<C: HasVariables>(
     }
     None
 }
+
+/// Why it is not asked whether two impls overlap by rules, if it may not be.
+pub(crate) fn impls_refusal<C: HasVariables>(
+    ctx: &C,
+    rules: &[RuleOf<C::Interner>],
+    left: &RuleOf<C::Interner>,
+    right: &RuleOf<C::Interner>,
+) -> Option<WhyNot>
+    requires rules_known { All (KnowsRule (C.state ctx.now)) rules.now }
+    requires left_known { KnowsRule (C.state ctx.now) left.now }
+    requires right_known { KnowsRule (C.state ctx.now) right.now }
+    ensures rules { IfNone result (All (MayServe (C.state ctx.now)) rules.now) }
+    ensures left { IfNone result (MayServe (C.state ctx.now) left.now) }
+    ensures right { IfNone result (MayServe (C.state ctx.now) right.now) }
+{
+    if let Some(why) = rules_refusal(ctx, rules) {
+        return Some(why);
+    }
+    if let Some(why) = rule_refusal(ctx, left) {
+        return Some(why);
+    }
+    if let Some(why) = rule_refusal(ctx, right) {
+        return Some(why);
+    }
+    None
+}

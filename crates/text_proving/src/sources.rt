@@ -1,28 +1,31 @@
 //! Of which of a text's statements a rule is.
-ghost use Rattle.std.specs.Prelude.{IsTrue};
+ghost use Rattle.std.specs.Prelude.{◌≡◌, true, false, OnOk};
+ghost use Rattle.std.specs.Fmt.{WritesInCalls};
 ghost use Rattle.std.specs.List.{All};
-ghost use Rattle.relation_terms.specs.Trees.{known};
-ghost use Rattle.text_proving.specs.Made.{KnowsMade};
-ghost use Rattle.text_proving.specs.Sources.{IsSource};
+ghost use Rattle.text_proving.specs.Made.{KnowsClause, KnowsMade};
+ghost use Rattle.text_proving.specs.Sources.{Gives, IsSource, source_text};
 
 pub use relation_proving::opening::RuleOf;
-use relation_terms::terms::{Clause, Interner, ParamEnv};
+use relation_terms::terms::{Clause, Interner};
 use std::fmt::{self, Write};
 
-/// Of which of a text's statements a rule is, by its number from 0 on.
+/// Of which of a text's statements a rule is.
 #[derive(Clone, Copy)]
 pub enum Source {
-    /// An impl.
+    /// The impl of that number.
     Impl(usize),
     /// A predicate that is assumed.
-    Assumed(usize),
+    Assumed,
     /// What is assumed implies it, by what traits state.
     Implied,
 }
 
-// Whether a clause is what a rule gives.
+// Whether a rule gives a clause.
 fn gives<I: Interner>(cx: &I, rule: &RuleOf<I>, clause: &Clause<I>) -> bool
-    requires { KnowsMade (I.meaning cx.now) rule.now }
+    requires rule { KnowsMade (I.meaning cx.now) rule.now }
+    requires clause { KnowsClause (I.meaning cx.now) clause.now }
+    ensures yes { result ≡ true → Gives (I.meaning cx.now) rule.now clause.now }
+    ensures no { result ≡ false → Gives (I.meaning cx.now) rule.now clause.now → ⊥ }
 {
     match cx.clauses(&rule.value).split_first() {
         Some((given, _)) => given == clause,
@@ -30,42 +33,31 @@ fn gives<I: Interner>(cx: &I, rule: &RuleOf<I>, clause: &Clause<I>) -> bool
     }
 }
 
-/// Of which statement the rule at a place is: of rules those of what is assumed stand first, so many, and impls behind
-/// them. The interner has to know the rules, and the environment, which has what is assumed.
-pub fn source_of<I: Interner>(
-    cx: &I,
-    rules: &[RuleOf<I>],
-    param_env: &ParamEnv<I>,
-    held: usize,
-    place: usize,
-) -> Source
-    requires rules { All (KnowsMade (I.meaning cx.now)) rules.now }
-    requires env { IsTrue (known ((I.meaning cx.now).param_env param_env.now)) }
-    ensures { IsSource held place result }
+/// Of which statement a rule is that comes of what is assumed. The interner has to know the rule and the clauses that are
+/// assumed.
+pub fn source_held<I: Interner>(cx: &I, rule: &RuleOf<I>, assumed: &[Clause<I>]) -> Source
+    requires rule { KnowsMade (I.meaning cx.now) rule.now }
+    requires assumed { All (KnowsClause (I.meaning cx.now)) assumed.now }
+    ensures { IsSource (I.meaning cx.now) rule.now assumed.now result }
 {
-    if place >= held {
-        return Source::Impl(place - held);
-    }
-    let Some(rule) = rules.get(place) else {
-        return Source::Implied;
-    };
-    let bounds = cx.caller_bounds(param_env);
-    for (number, clause) in cx.clauses(&bounds).iter().enumerate() {
+    for clause in assumed {
         if gives(cx, rule, clause) {
-            return Source::Assumed(number);
+            return Source::Assumed;
         }
     }
     Source::Implied
 }
 
-/// Writes of which statement a rule is: `impl 2`, `assumed 1`, `implied`.
+/// Writes of which statement a rule is: `impl 2`, `what is assumed`, `what is implied`.
 ///
 /// # Errors
 /// `fmt::Error` where `out` refused to take some of the text. What it took before stands.
-pub fn write_source<W: Write>(source: Source, out: &mut W) -> fmt::Result {
+pub fn write_source<W: Write>(source: Source, out: &mut W) -> fmt::Result
+    ensures { OnOk result (WritesInCalls W.write_str_gives out.old (source_text source) out.new) }
+{
     match source {
-        Source::Impl(number) => write!(out, "impl {}", number.saturating_add(1)),
-        Source::Assumed(number) => write!(out, "assumed {}", number.saturating_add(1)),
-        Source::Implied => out.write_str("implied"),
+        Source::Impl(number) => write!(out, "impl {number}"),
+        Source::Assumed => out.write_str("what is assumed"),
+        Source::Implied => out.write_str("what is implied"),
     }
 }

@@ -87,6 +87,7 @@ wrong_text found wrong.NoItem = expected_found (codes "an item") found
 wrong_text found wrong.NoTrait = expected_found (codes "a trait") found
 wrong_text found wrong.IsTrait = expected_found (codes "no trait") found
 wrong_text found wrong.OtherTrait = expected_found (codes "the trait of the impl before") found
+wrong_text found wrong.NoImpl = expected_found (codes "the number of an impl before") found
 wrong_text found (wrong.Count m n) = count_text m n
 wrong_text found wrong.Parameter = expected_found (codes "no parameter") found
 wrong_text found wrong.NumberType = expected_found (codes "a number of a type of numbers") found

@@ -44,6 +44,8 @@ pub enum Wrong {
     IsTrait,
     /// The trait is another than that of the impl before.
     OtherTrait,
+    /// No impl before has the number.
+    NoImpl,
     /// Something is assigned where only arguments stand.
     Assigned,
     /// The item has another number of parameters than there are arguments.
@@ -237,6 +239,7 @@ fn write_wrong<W: Write>(found: &str, why: Wrong, out: &mut W) -> fmt::Result
         Wrong::NoTrait => write_expected("a trait", found, out),
         Wrong::IsTrait => write_expected("no trait", found, out),
         Wrong::OtherTrait => write_expected("the trait of the impl before", found, out),
+        Wrong::NoImpl => write_expected("the number of an impl before", found, out),
         Wrong::Assigned => write_expected("an argument", found, out),
         Wrong::Parameter => write_expected("no parameter", found, out),
         Wrong::NumberType => write_expected("a number of a type of numbers", found, out),

@@ -51,10 +51,20 @@ impl<'a> Namer<'a> {
         self.note(QuestionKind::Overlap { left, right })
     }
 
-    // A rule that later goals may follow from: what it is generic over, what it gives, and what it asks for.
+    // The number of the impl behind those so far.
+    fn next_impl(&self) -> usize {
+        match self.program.impls.last() {
+            Some(rule) => rule.number.saturating_add(1),
+            None => 1,
+        }
+    }
+
+    // A rule of the impl of a number, that later goals may follow from: what it is generic over, what it gives, and what
+    // it asks for.
     fn add_rule(
         &mut self,
         node: &Node,
+        number: usize,
         variables: Parts,
         gives: Clause,
         asks: &[usize],
@@ -67,7 +77,11 @@ impl<'a> Namer<'a> {
             first,
             behind: asked.behind,
         };
-        self.program.impls.push(Impl { variables, clauses })?;
+        self.program.impls.push(Impl {
+            number,
+            variables,
+            clauses,
+        })?;
         Ok(())
     }
 
@@ -103,19 +117,60 @@ impl<'a> Namer<'a> {
         given: usize,
         asks: &[usize],
     ) -> Result<(), NameError> {
+        let number = self.next_impl();
         let variables = self.variables(node, generics)?;
         let (_, header) = self.header(node, given)?;
-        self.add_rule(node, variables, header, asks)?;
+        self.add_rule(node, number, variables, header, asks)?;
         let given = self.node(node, given)?;
         let [.., gives] = self.parts(&given)? else {
             return Err(error_at(&given, Wrong::NotRead));
         };
         let gives = self.node(&given, *gives)?;
-        for number in self.parts(&gives)? {
-            let clause = self.assigned(&given, *number)?;
-            self.add_rule(node, variables, clause, asks)?;
+        for assigned in self.parts(&gives)? {
+            let clause = self.assigned(&given, *assigned)?;
+            self.add_rule(node, number, variables, clause, asks)?;
         }
         Ok(())
+    }
+
+    // The place of the first rule of the impl that has the leaf's number.
+    fn rule_said(&self, whole: &Node, number: usize) -> Result<usize, NameError> {
+        let wanted = self.count(whole, number)?;
+        for (place, rule) in self.program.impls.iter().enumerate() {
+            if rule.number == wanted {
+                return Ok(place);
+            }
+        }
+        Err(error_at(&self.node(whole, number)?, Wrong::NoImpl))
+    }
+
+    // The trait of the impl that has a rule, if that is its first one.
+    fn trait_said(&self, place: usize) -> Option<usize> {
+        let rule = self.program.impls.get(place)?;
+        trait_of_header(self.program.clauses.get(rule.clauses.first)?)
+    }
+
+    // Whether two impls overlap, with what each asks for: by their numbers, and within a depth if that is given.
+    pub fn note_impls_overlap(&mut self, node: &Node, parts: &[usize]) -> Result<(), NameError> {
+        let [lhs, rhs, depth @ ..] = parts else {
+            return Err(error_at(node, Wrong::NotRead));
+        };
+        let left = self.rule_said(node, *lhs)?;
+        let right = self.rule_said(node, *rhs)?;
+        if self.trait_said(left) != self.trait_said(right) {
+            return Err(error_at(&self.node(node, *rhs)?, Wrong::OtherTrait));
+        }
+        let depth = match depth {
+            [number] => self.depth(node, *number)?,
+            _ => DEPTH,
+        };
+        let impls = self.program.impls.len();
+        self.note(QuestionKind::ImplsOverlap {
+            left,
+            right,
+            impls,
+            depth,
+        })
     }
 
     // The depth of that leaf, if it is none too large.

@@ -172,10 +172,12 @@ pub struct Stated {
     pub clauses: Parts,
 }
 
-/// An impl: what it is generic over, each as it stands right under its binder, and the predicates of a range of the
-/// program's list: what it gives, and then what it asks for.
+/// A rule of an impl: what it is generic over, each as it stands right under its binder, and the predicates of a range
+/// of the program's list: what it gives, and then what it asks for.
 #[derive(Clone, Copy)]
 pub struct Impl {
+    /// The impl's number among the program's, from 1 on: each of its rules has it.
+    pub number: usize,
     pub variables: Parts,
     pub clauses: Parts,
 }
@@ -296,6 +298,14 @@ pub enum QuestionKind {
         left: usize,
         right: usize,
     },
+    /// Whether two impls overlap, with what each asks for, within a depth: each the first rule of an impl, by its place
+    /// among so many rules of impls by which that is told, and by what is assumed.
+    ImplsOverlap {
+        left: usize,
+        right: usize,
+        impls: usize,
+        depth: usize,
+    },
     /// Which methods may be for a type, of those of a range of the program's list.
     Methods {
         methods: Parts,
@@ -307,7 +317,7 @@ pub enum QuestionKind {
         longer: Parts,
         shorter: Parts,
     },
-    /// Whether the predicate of that number follows, within a depth, from so many of the program's impls and from what
+    /// Whether the predicate of that number follows, within a depth, from so many of the impls' rules and from what
     /// is assumed.
     Prove {
         goal: usize,
@@ -385,7 +395,7 @@ pub struct Program<'a> {
     pub clauses: Vec<Clause>,
     /// The methods of tables.
     pub methods: Vec<Method>,
-    /// The impls that goals may follow from.
+    /// The rules of the impls that goals may follow from.
     pub impls: Vec<Impl>,
     pub stated: Vec<Stated>,
     /// The traits, by their numbers, that the language knows as `Sized`.

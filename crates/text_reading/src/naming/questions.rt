@@ -336,6 +336,7 @@ impl<'a> Namer<'a> {
             }
             (Form::Supertraits, _) => self.note_supertraits(node, parts),
             (Form::Overlap, [lhs, rhs]) => self.note_overlap(node, *lhs, *rhs),
+            (Form::ImplsOverlap, _) => self.note_impls_overlap(node, parts),
             (Form::Methods, _) => self.note_methods(node, parts),
             (Form::Prove, [goal]) => self.note_prove(node, *goal, DEPTH),
             (Form::Prove, [goal, depth]) => {

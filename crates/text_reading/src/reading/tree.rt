@@ -182,8 +182,10 @@ pub enum Form {
     One,
     /// What a variable is bound to: the variable.
     Binding,
-    /// Whether two impls overlap: the `ImplHeader` of each.
+    /// Whether the headers of two impls overlap: the `ImplHeader` of each.
     Overlap,
+    /// Whether two impls overlap, with what each asks for: their numbers, and the depth if that is given.
+    ImplsOverlap,
     /// The header of an impl: the `Generics` that it is under, the `Named` of the trait, and the type that implements it.
     ImplHeader,
     /// What an impl, or the type of a method, is generic over: a `Declared` or a `DeclaredConst` for each.

@@ -4,7 +4,7 @@ use Rattle.std.specs.List.{All}
 use Rattle.relation_terms.proofs.Stays.{extends_on}
 use Rattle.variable_tables.proofs.Grows.{lawful_grows}
 use Rattle.text_proving.specs.Made.{KnowsMade}
-use Rattle.text_asking.proofs.ProofLemmas.{proof_later}
+use Rattle.text_asking.proofs.ProofLemmas.{proof_later, told_known}
 use Rattle.text_asking.proofs.proving.ask_proved.Goals as goal
 
 pub have_named-requires-clause-lawful : goal.have_named-requires-clause-lawful
@@ -40,3 +40,10 @@ returns-in-Ok-ask_proof-clause-grown g c =
 pub returns-clause-grown : goal.returns-clause-grown
 returns-clause-grown g c =
     extends_on (extends_on c.proof_of.ensures.grown c.have_named.ensures.grown) c.ask_proof.ensures.grown
+
+pub source_named-requires : goal.source_named-requires
+source_named-requires g c = proof_later (extends_on c.have_named.ensures.grown c.ask_proof.ensures.grown)
+    c.in-Some.proof c.in-Some.ensures.sure
+
+pub returns-in-Ok-ask_proof-clause-known : goal.returns-in-Ok-ask_proof-clause-known
+returns-in-Ok-ask_proof-clause-known g c = told_known _ _ _ _ c.in-Ok-ask_proof.told c.in-Ok-ask_proof.ensures.named

@@ -29,7 +29,7 @@ pub(in crate::reading) static QUESTION: [Shape; 3] = [
 ];
 
 // What is asked.
-pub(in crate::reading) static ASKED: [Shape; 32] = [
+pub(in crate::reading) static ASKED: [Shape; 33] = [
     (
         Node(Form::Visit),
         &[
@@ -297,6 +297,17 @@ pub(in crate::reading) static ASKED: [Shape; 32] = [
     (
         Node(Form::Binding),
         &[Mark(Sign::Binding), Leaf(Expected::AnyVariable)],
+    ),
+    (
+        Node(Form::ImplsOverlap),
+        &[
+            Mark(Sign::Overlap),
+            Leaf(Expected::Number),
+            Mark(Sign::Comma),
+            Leaf(Expected::Number),
+            Further(Sign::At),
+            Leaf(Expected::Number),
+        ],
     ),
     (
         Node(Form::Overlap),
