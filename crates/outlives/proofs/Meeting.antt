@@ -1,6 +1,9 @@
 -- What a collection of components has met, as it goes over parts.
 use Rattle.std.proofs.Common.{◌≡◌, ◌<◌, ◌≤◌, ◌+◌, ◌-◌, ℕ, suc, Bool, true, false, cond, nat_lt, IsTrue, refl, sym, ap, subst, arith}
-use Rattle.std.proofs.Common.{List, [], Option, Some, None, option_map, Result, Ok, Err, IsErr, OnOk}
+use Rattle.std.proofs.Common.{List, [], Option, Some, None, option_map, Result, Ok, Err, IsErr, OnOk, IfOk, ◌∷◌, ◌++◌, ◌∙◌}
+use mathlib.Core.List.{map-append}
+use Rattle.std.specs.List.{list_any}
+use Rattle.std.specs.Map.{keys_of}
 use Rattle.std.proofs.lemmas.Bool.{ltb-true, ltb-false}
 use Rattle.relation_terms.specs.Trees.{Tree, known, size, count, nth}
 use Rattle.relation_terms.specs.Meaning.{Meaning, arg_tree}
@@ -52,8 +55,8 @@ module _ {X D N : Type 0} (m : Meaning X D N) where
     pub part_settled : (p : Part X D) (b : Bool) (n : ℕ) (xs ys : List (GenericArgKind X)) (cs : List (Component X D N)) →
         Keeps eq (kept_of p) b xs ys → IsTrue (known (part_tree m p)) → n ≡ size (part_tree m p) →
         Settled m eq n xs cs → Settled m eq n ys cs
-    part_settled (Ty t) b n xs ys cs k h e s = settled_kept m eq same n (TyArg t) xs ys cs h e k.1 s
-    part_settled (Const t) b n xs ys cs k h e s = settled_kept m eq same n (ConstArg t) xs ys cs h e k.1 s
+    part_settled (Ty t) b n xs ys cs k h e s = settled_kept m eq same n (TyArg t) b xs ys cs h e k s
+    part_settled (Const t) b n xs ys cs k h e s = settled_kept m eq same n (ConstArg t) b xs ys cs h e k s
     part_settled (Region r) b n xs ys cs k h e s = subst (λ z. Settled m eq n z cs) (sym k.1) s
     part_settled (ValTree v) b n xs ys cs k h e s = subst (λ z. Settled m eq n z cs) (sym k.1) s
     part_settled (Pat q) b n xs ys cs k h e s = subst (λ z. Settled m eq n z cs) (sym k.1) s
@@ -67,8 +70,8 @@ module _ {X D N : Type 0} (m : Meaning X D N) where
     pub part_meets : (p : Part X D) (b : Bool) (xs ys : List (GenericArgKind X)) (cs : List (Component X D N)) →
         Keeps eq (kept_of p) b xs ys → IsTrue (known (part_tree m p)) → HasAll m (components every (part_tree m p)) cs →
         Meets m eq xs ys cs
-    part_meets (Ty t) b xs ys cs k h a = meets_kept m eq same (TyArg t) xs ys cs h k.1 a
-    part_meets (Const t) b xs ys cs k h a = meets_kept m eq same (ConstArg t) xs ys cs h k.1 a
+    part_meets (Ty t) b xs ys cs k h a = meets_kept m eq same (TyArg t) b xs ys cs h k a
+    part_meets (Const t) b xs ys cs k h a = meets_kept m eq same (ConstArg t) b xs ys cs h k a
     part_meets (Region r) b xs ys cs k h a = meets_none m eq xs ys cs k.1
     part_meets (ValTree v) b xs ys cs k h a = meets_none m eq xs ys cs k.1
     part_meets (Pat q) b xs ys cs k h a = meets_none m eq xs ys cs k.1
@@ -100,3 +103,11 @@ module _ {X D N : Type 0} (m : Meaning X D N) where
     pub meets_on : (xs ys zs : List (GenericArgKind X)) (cs : List (Component X D N)) → Meets m eq xs ys cs →
         Meets m eq ys zs cs → Meets m eq xs zs cs
     meets_on xs ys zs cs p o = meets_after m eq xs ys zs [] cs cs (adds_none m [] cs) p o
+
+-- What a map answers of a key that it was to keep says how it keeps that.
+pub keeps_now : {T E : Type 0} (eq : T → T → Bool) (x : T) (es fs : List (T × Unit {0})) (r : Result Bool E) →
+    (r ≡ Ok true → fs ≡ es ++ (x, tt) ∷ []) → (r ≡ Ok false → IsTrue (list_any (eq x) (keys_of es))) →
+    (r ≡ Ok false → fs ≡ es) → IfOk r (λ new. Keeps eq (Some x) new (keys_of es) (keys_of fs))
+keeps_now eq x es fs (Ok true) new met stays = ap keys_of (new refl) ∙ map-append (λ e. e.0) es ((x, tt) ∷ [])
+keeps_now eq x es fs (Ok false) new met stays = (met refl, ap keys_of (stays refl))
+keeps_now eq x es fs (Err e) new met stays = tt

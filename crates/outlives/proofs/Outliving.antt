@@ -1,7 +1,8 @@
 -- Lists of components, as they grow.
-use Rattle.std.proofs.Common.{◌≡◌, ◌≤◌, ◌⊎◌, ◌∙◌, ℕ, Bool, true, false, cond, IsTrue, refl, sym, ap, subst, inl, inr, ⊎_elim, arith}
-use Rattle.std.proofs.Common.{List, [], ◌∷◌, ◌++◌, append-nil, Vec, Global, Result, Ok, Err, OnOk, OnErr}
+use Rattle.std.proofs.Common.{◌≡◌, ◌≤◌, ◌⊎◌, ◌∙◌, ℕ, Bool, true, false, cond, IsTrue, refl, sym, ap, subst, inl, inr, ⊎_elim, ◌||◌, arith}
+use Rattle.std.proofs.Common.{List, [], ◌∷◌, ◌++◌, append-nil, Vec, Global, Some, Result, Ok, Err, OnOk, OnErr}
 use Rattle.std.proofs.lemmas.List.{append_assoc}
+use Rattle.std.proofs.lemmas.List.Folds.{list_any-append}
 use Rattle.std.specs.List.{list_any}
 use mathlib.Core.Former.{Count}
 use Rattle.relation_terms.specs.Trees.{Tree, known, size}
@@ -10,8 +11,7 @@ use Rattle.relation_terms.specs.declared.terms.generic_arg.GenericArgKind.{Gener
 use Rattle.relation_folds.specs.Visits.{bound_var_escapes}
 use Rattle.component_parts.specs.Components.{every, components, inside_alias}
 use Rattle.outlives.specs.Outliving.{SomeIs, EachIs, StandsFor, EachStands, SomeStands, AddsSome, HasAll}
-use Rattle.outlives.specs.Collecting.{Settled, Meets}
-use Rattle.traversal.specs.Keeping.{Adds}
+use Rattle.outlives.specs.Collecting.{Settled, Meets, Keeps}
 use Rattle.outlives.specs.declared.Component.{Component, EscapingAlias, EscapingAlias', Row_of-Component, end_of-Component, more_of-Component, items-the_row-Component, items_hidden-the_row-Component-0}
 
 -- Of two lists, one after the other.
@@ -173,25 +173,30 @@ module _ {X D N : Type 0} (m : Meaning X D N) where
         Settled m eq n xs cs
     settled_none n xs cs e q k s h = absurd (let none : false ≡ true = sym (ap (list_any (eq q)) e) ∙ s in cc)
 
-    -- Of what is kept now, what is smaller was settled before; and where its components were added, all were met.
-    pub settled_kept : (same : (x y : GenericArgKind X) → IsTrue (known (arg_tree m x)) → IsTrue (known (arg_tree m y)) →
-        (IsTrue (eq x y) → arg_tree m x ≡ arg_tree m y) × (arg_tree m x ≡ arg_tree m y → IsTrue (eq x y))) → (n : ℕ) (x : GenericArgKind X) (xs ys : List (GenericArgKind X))
-        (cs : List (Component X D N)) → IsTrue (known (arg_tree m x)) → n ≡ size (arg_tree m x) → Adds eq xs x ys →
-        Settled m eq n xs cs → Settled m eq n ys cs
-    settled_kept same n x xs ys cs kx is a o q k s h = decided (eq x q) refl (sym (a q) ∙ s)
+    -- What equals one of those that are met now equals one that was met, or what is kept now.
+    met_more : (x q : GenericArgKind X) (b : Bool) (xs ys : List (GenericArgKind X)) → Keeps eq (Some x) b xs ys →
+        list_any (eq q) ys ≡ true → (list_any (eq q) xs ≡ true) ⊎ (eq q x ≡ true)
+    met_more x q true xs ys k s =
+        last_of (list_any (eq q) xs) (eq q x) (sym (list_any-append (eq q) xs (x ∷ [])) ∙ ap (list_any (eq q)) (sym k) ∙ s)
       where
-        decided : (b : Bool) → eq x q ≡ b → cond b true (list_any (eq q) xs) ≡ true →
-            HasAll m (components every (arg_tree m q)) cs
-        decided true e t = absurd (let i = ap size ((same x q kx k).0 e) in omega (arith, i, is, h))
-        decided false e t = o q k t h
+        last_of : (a b : Bool) → (a || (b || false)) ≡ true → (a ≡ true) ⊎ (b ≡ true)
+        last_of true b e = inl refl
+        last_of false true e = inr refl
+        last_of false false e = absurd (cc)
+    met_more x q false xs ys k s = inl (ap (list_any (eq q)) (sym k.1) ∙ s)
 
-    pub meets_kept : (same : (x y : GenericArgKind X) → IsTrue (known (arg_tree m x)) → IsTrue (known (arg_tree m y)) →
-        (IsTrue (eq x y) → arg_tree m x ≡ arg_tree m y) × (arg_tree m x ≡ arg_tree m y → IsTrue (eq x y))) → (x : GenericArgKind X) (xs ys : List (GenericArgKind X))
-        (cs : List (Component X D N)) → IsTrue (known (arg_tree m x)) → Adds eq xs x ys →
-        HasAll m (components every (arg_tree m x)) cs → Meets m eq xs ys cs
-    meets_kept same x xs ys cs kx a h q k s = decided (eq x q) refl (sym (a q) ∙ s)
-      where
-        decided : (b : Bool) → eq x q ≡ b → cond b true (list_any (eq q) xs) ≡ true →
-            (list_any (eq q) xs ≡ true) ⊎ HasAll m (components every (arg_tree m q)) cs
-        decided true e t = inr (subst (λ z. HasAll m (components every z) cs) ((same x q kx k).0 e) h)
-        decided false e t = inl t
+    module _ (same : (x y : GenericArgKind X) → IsTrue (known (arg_tree m x)) → IsTrue (known (arg_tree m y)) →
+        (IsTrue (eq x y) → arg_tree m x ≡ arg_tree m y) × (arg_tree m x ≡ arg_tree m y → IsTrue (eq x y))) where
+      -- Of what is kept now, what is smaller was settled before; and where its components were added, all were met.
+      pub settled_kept : (n : ℕ) (x : GenericArgKind X) (b : Bool) (xs ys : List (GenericArgKind X))
+          (cs : List (Component X D N)) → IsTrue (known (arg_tree m x)) → n ≡ size (arg_tree m x) →
+          Keeps eq (Some x) b xs ys → Settled m eq n xs cs → Settled m eq n ys cs
+      settled_kept n x b xs ys cs kx is a o q k s h = ⊎_elim (λ t. o q k t h)
+          (λ e. absurd (let i = ap size ((same q x k kx).0 e) in omega (arith, i, is, h))) (met_more x q b xs ys a s)
+
+      pub meets_kept : (x : GenericArgKind X) (b : Bool) (xs ys : List (GenericArgKind X))
+          (cs : List (Component X D N)) → IsTrue (known (arg_tree m x)) → Keeps eq (Some x) b xs ys →
+          HasAll m (components every (arg_tree m x)) cs → Meets m eq xs ys cs
+      meets_kept x b xs ys cs kx a h q k s = ⊎_elim inl
+          (λ e. inr (subst (λ z. HasAll m (components every z) cs) (sym ((same q x k kx).0 e)) h))
+          (met_more x q b xs ys a s)

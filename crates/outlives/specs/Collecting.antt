@@ -1,8 +1,9 @@
 -- How a collection of components goes on, and what it has met.
-use Rattle.std.specs.Prelude.{◌≡◌, ◌⊎◌, ◌<◌, ℕ, zero, suc, Bool, true, cond, List, [], IsTrue, Option, Some, None}
+use Rattle.std.specs.Prelude.{◌≡◌, ◌⊎◌, ◌<◌, ℕ, zero, suc, Bool, true, cond, List, [], ◌∷◌, ◌++◌, IsTrue}
+use Rattle.std.specs.Prelude.{Option, Some, None}
 use Rattle.std.specs.List.{list_any}
 use Rattle.std.specs.Global.{Vec}
-use Rattle.std.specs.HashSet.{HashSet}
+use Rattle.std.specs.Map.{keys_of}
 use Rattle.relation_terms.specs.Trees.{Tree, cons, known, size}
 use Rattle.relation_terms.specs.Meaning.{Meaning, arg_tree, kind_tree}
 use Rattle.relation_terms.specs.Parts.{part_tree}
@@ -15,7 +16,6 @@ use Rattle.relation_terms.specs.declared.terms.ty_kind.TyKind.TheVariants.{Alias
 use Rattle.component_parts.specs.Components.{Choice, every, takes, choice_behind, components}
 use Rattle.component_parts.specs.Components.{inside_alias}
 use Rattle.outlives.specs.Outliving.{AddsSome, HasAll}
-use Rattle.traversal.specs.Keeping.{Adds}
 use Rattle.outlives.specs.declared.Component.{Component}
 
 -- The components of the member at a place, if it is chosen.
@@ -55,12 +55,12 @@ module _ {Key Id Name : Type 0} (m : Meaning Key Id Name) where
         (list_any (eq q) old ≡ true) ⊎ HasAll m (components every (arg_tree m q)) cs
 
 -- For whatever was met and is no larger than the part, the list has all components.
-abbrev pub Ready : {C Key Id Name S : Type 0} → (C → Meaning Key Id Name) → C →
-    (GenericArgKind Key → GenericArgKind Key → Bool) → Part Key Id → HashSet (GenericArgKind Key) S →
+abbrev pub Ready : {C Key Id Name V : Type 0} → (C → Meaning Key Id Name) → C →
+    (GenericArgKind Key → GenericArgKind Key → Bool) → Part Key Id → List (GenericArgKind Key × V) →
     Vec (Component Key Id Name) → Type 0
-Ready meaning cx eq p seen cs = Settled (meaning cx) eq (suc (size (part_tree (meaning cx) p))) seen.keys cs.items
+Ready meaning cx eq p seen cs = Settled (meaning cx) eq (suc (size (part_tree (meaning cx) p))) (keys_of seen) cs.items
 
--- What was kept was met before, and stays; or it is kept from now on; or nothing is kept.
+-- What is kept now stands behind what was met; or it was met, and nothing more is; or it is not kept at all.
 abbrev pub Keeps : {T : Type 0} → (T → T → Bool) → Option T → Bool → List T → List T → Type 0
 Keeps eq None new xs ys = (new ≡ true) × (ys ≡ xs)
-Keeps eq (Some x) new xs ys = (cond new (Unit {0}) (list_any (eq x) xs ≡ true)) × Adds eq xs x ys
+Keeps eq (Some x) new xs ys = cond new (ys ≡ xs ++ x ∷ []) ((list_any (eq x) xs ≡ true) × (ys ≡ xs))

@@ -1,5 +1,6 @@
 //! The components of a term: one recursion over the parts of all forms, that goes into each type and constant once.
 ghost use Rattle.std.specs.Prelude.{◌≡◌, ◌<◌, ◌++◌, ◌∷◌, [], suc, true, IsTrue, IfOk, OnOk, OnErr};
+ghost use Rattle.std.specs.Map.{keys_of};
 ghost use Rattle.relation_terms.specs.Trees.{known, size, count};
 ghost use Rattle.relation_terms.specs.Meaning.{kind_tree};
 ghost use Rattle.relation_terms.specs.Parts.{part_tree, parts_tree};
@@ -20,17 +21,16 @@ use relation_terms::terms::{
     AliasTy, GenericArgKind, GenericArgs, Interner, OutOfMemory, Part, PartOf, Parts, PartsOf,
     Region, RegionKind, Ty, TyKind, Tys,
 };
-use traversal::keep;
 
 // Whether a part is met for the first time. A type and a constant are kept; of all else no account is kept.
 #[inline(always)]
 fn meet<I: Interner>(part: &PartOf<I>, visited: &mut Met<I>) -> Result<bool, OutOfMemory>
-    ensures { IfOk result (λ new.
-        Keeps ⟦<GenericArgKind<I::Key> as PartialEq>⟧.eq (kept_of part.now) new visited.old.keys visited.new.keys) }
+    ensures { IfOk result (λ new. Keeps ⟦<GenericArgKind<I::Key> as PartialEq>⟧.eq (kept_of part.now) new
+        (keys_of visited.old) (keys_of visited.new)) }
 {
     match part {
-        Part::Ty(ty) => keep(visited, GenericArgKind::Ty(*ty)),
-        Part::Const(constant) => keep(visited, GenericArgKind::Const(*constant)),
+        Part::Ty(ty) => visited.insert(GenericArgKind::Ty(*ty), ()),
+        Part::Const(constant) => visited.insert(GenericArgKind::Const(*constant), ()),
         _ => Ok(true),
     }
 }
@@ -76,7 +76,7 @@ pub fn collect_part<I: Interner>(
     ensures some { AddsFrom (I.meaning cx.now) (part_tree (I.meaning cx.now) part.now) out.old.items out.new.items }
     ensures all { OnOk result (HasAllOf (I.meaning cx.now) (part_tree (I.meaning cx.now) part.now) out.new.items) }
     ensures meets { OnOk result (Meets (I.meaning cx.now) ⟦<GenericArgKind<I::Key> as PartialEq>⟧.eq
-        visited.old.keys visited.new.keys out.new.items) }
+        (keys_of visited.old) (keys_of visited.new) out.new.items) }
 {
     match part {
         Part::Region(region) => collect_region(cx, *region, out),
@@ -102,11 +102,11 @@ fn collect_type<I: Interner>(
 ) -> Result<(), OutOfMemory>
     requires known { IsTrue (known ((I.meaning cx.now).ty ty)) }
     requires settled { Settled (I.meaning cx.now) ⟦<GenericArgKind<I::Key> as PartialEq>⟧.eq
-        (suc (size ((I.meaning cx.now).ty ty))) visited.old.keys out.old.items }
+        (suc (size ((I.meaning cx.now).ty ty))) (keys_of visited.old) out.old.items }
     ensures some { AddsFrom (I.meaning cx.now) ((I.meaning cx.now).ty ty) out.old.items out.new.items }
     ensures all { OnOk result (HasAllOf (I.meaning cx.now) ((I.meaning cx.now).ty ty) out.new.items) }
     ensures meets { OnOk result (Meets (I.meaning cx.now) ⟦<GenericArgKind<I::Key> as PartialEq>⟧.eq
-        visited.old.keys visited.new.keys out.new.items) }
+        (keys_of visited.old) (keys_of visited.new) out.new.items) }
 {
     let first = meet::<I>(&Part::Ty(ty), visited)?;
     if !first {
@@ -125,11 +125,11 @@ fn collect_tys<I: Interner>(
 ) -> Result<(), OutOfMemory>
     requires known { IsTrue (known ((I.meaning cx.now).tys tys)) }
     requires settled { Settled (I.meaning cx.now) ⟦<GenericArgKind<I::Key> as PartialEq>⟧.eq
-        (size ((I.meaning cx.now).tys tys)) visited.old.keys out.old.items }
+        (size ((I.meaning cx.now).tys tys)) (keys_of visited.old) out.old.items }
     ensures some { AddsFrom (I.meaning cx.now) ((I.meaning cx.now).tys tys) out.old.items out.new.items }
     ensures all { OnOk result (HasAllOf (I.meaning cx.now) ((I.meaning cx.now).tys tys) out.new.items) }
     ensures meets { OnOk result (Meets (I.meaning cx.now) ⟦<GenericArgKind<I::Key> as PartialEq>⟧.eq
-        visited.old.keys visited.new.keys out.new.items) }
+        (keys_of visited.old) (keys_of visited.new) out.new.items) }
 {
     for ty in cx.tys(&tys) {
         collect_type(cx, *ty, out, visited)?;
@@ -148,7 +148,7 @@ fn collect_members<I: Interner>(
 ) -> Result<(), OutOfMemory>
     requires known { IsTrue (known (parts_tree (I.meaning cx.now) parts.now)) }
     requires settled { Settled (I.meaning cx.now) ⟦<GenericArgKind<I::Key> as PartialEq>⟧.eq
-        (size (parts_tree (I.meaning cx.now) parts.now)) visited.old.keys out.old.items }
+        (size (parts_tree (I.meaning cx.now) parts.now)) (keys_of visited.old) out.old.items }
     ensures some { AddsSome (I.meaning cx.now)
         (components (meant (I.meaning cx.now) chosen.now) (parts_tree (I.meaning cx.now) parts.now))
         out.old.items out.new.items }
@@ -156,7 +156,7 @@ fn collect_members<I: Interner>(
         (components (meant (I.meaning cx.now) chosen.now) (parts_tree (I.meaning cx.now) parts.now))
         out.new.items) }
     ensures meets { OnOk result (Meets (I.meaning cx.now) ⟦<GenericArgKind<I::Key> as PartialEq>⟧.eq
-        visited.old.keys visited.new.keys out.new.items) }
+        (keys_of visited.old) (keys_of visited.new) out.new.items) }
 {
     let count = member_count(cx, parts);
     for step in 0..places_count(chosen, count) {
@@ -181,7 +181,7 @@ fn collect_member<I: Interner>(
     requires members { members ≡ count (parts_tree (I.meaning cx.now) parts.now) }
     requires in_bounds { i < count (parts_tree (I.meaning cx.now) parts.now) }
     requires settled { Settled (I.meaning cx.now) ⟦<GenericArgKind<I::Key> as PartialEq>⟧.eq
-        (size (parts_tree (I.meaning cx.now) parts.now)) visited.old.keys out.old.items }
+        (size (parts_tree (I.meaning cx.now) parts.now)) (keys_of visited.old) out.old.items }
     ensures some { AddsSome (I.meaning cx.now)
         (of_member (meant (I.meaning cx.now) chosen.now) i (parts_tree (I.meaning cx.now) parts.now))
         out.old.items out.new.items }
@@ -189,7 +189,7 @@ fn collect_member<I: Interner>(
         (of_member (meant (I.meaning cx.now) chosen.now) i (parts_tree (I.meaning cx.now) parts.now))
         out.new.items) }
     ensures meets { OnOk result (Meets (I.meaning cx.now) ⟦<GenericArgKind<I::Key> as PartialEq>⟧.eq
-        visited.old.keys visited.new.keys out.new.items) }
+        (keys_of visited.old) (keys_of visited.new) out.new.items) }
 {
     let part = member(cx, parts, i);
     if !is_chosen(cx, chosen, members, i, &part) {
@@ -208,11 +208,11 @@ fn collect_ty<I: Interner>(
 ) -> Result<(), OutOfMemory>
     requires known { IsTrue (known ((I.meaning cx.now).ty ty)) }
     requires settled { Settled (I.meaning cx.now) ⟦<GenericArgKind<I::Key> as PartialEq>⟧.eq
-        (size ((I.meaning cx.now).ty ty)) visited.old.keys out.old.items }
+        (size ((I.meaning cx.now).ty ty)) (keys_of visited.old) out.old.items }
     ensures some { AddsFrom (I.meaning cx.now) ((I.meaning cx.now).ty ty) out.old.items out.new.items }
     ensures all { OnOk result (HasAllOf (I.meaning cx.now) ((I.meaning cx.now).ty ty) out.new.items) }
     ensures meets { OnOk result (Meets (I.meaning cx.now) ⟦<GenericArgKind<I::Key> as PartialEq>⟧.eq
-        visited.old.keys visited.new.keys out.new.items) }
+        (keys_of visited.old) (keys_of visited.new) out.new.items) }
 {
     match cx.ty_kind(&ty) {
         TyKind::Slice(element) => collect_type(cx, element, out, visited),
@@ -237,11 +237,11 @@ fn collect_form<I: Interner>(
 ) -> Result<(), OutOfMemory>
     requires known { IsTrue (known ((I.meaning cx.now).ty ty)) }
     requires settled { Settled (I.meaning cx.now) ⟦<GenericArgKind<I::Key> as PartialEq>⟧.eq
-        (size ((I.meaning cx.now).ty ty)) visited.old.keys out.old.items }
+        (size ((I.meaning cx.now).ty ty)) (keys_of visited.old) out.old.items }
     ensures some { AddsFrom (I.meaning cx.now) ((I.meaning cx.now).ty ty) out.old.items out.new.items }
     ensures all { OnOk result (HasAllOf (I.meaning cx.now) ((I.meaning cx.now).ty ty) out.new.items) }
     ensures meets { OnOk result (Meets (I.meaning cx.now) ⟦<GenericArgKind<I::Key> as PartialEq>⟧.eq
-        visited.old.keys visited.new.keys out.new.items) }
+        (keys_of visited.old) (keys_of visited.new) out.new.items) }
 {
     let kind = cx.ty_kind(&ty);
     match &kind {

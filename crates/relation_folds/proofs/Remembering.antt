@@ -1,9 +1,9 @@
 -- What a fold remembers, as it goes on.
 use Rattle.std.proofs.Common.{ℕ, ◌≡◌, ◌↔◌, IsTrue, Bool, true, false, cond, Option, Some, None, option_map, IfSome, refl, sym, ap}
-use Rattle.std.proofs.Common.{◌∙◌, ◌&&◌, eqb, subst}
+use Rattle.std.proofs.Common.{◌∙◌, ◌&&◌, eqb, subst, inl, inr, arith, List, [], ◌∷◌, ◌++◌, Contains, Result, Ok, Err, OnErr}
 use Rattle.std.proofs.lemmas.Bool.{and_parts, eqb-true}
-use Rattle.std.specs.HashMap.{HashMap, get, IsEmpty}
-use Rattle.std.specs.Map.{lookup}
+use Rattle.std.proofs.lemmas.List.Elements.{Contains-push_cases}
+use Rattle.delayed_map.specs.Kept.{Finds}
 use Rattle.relation_terms.specs.Trees.{Tree, known}
 use Rattle.relation_terms.specs.Meaning.{Meaning}
 use Rattle.relation_terms.specs.Parts.{part_tree, part_sort, part_key}
@@ -56,7 +56,7 @@ module _ {Key Id Name F : Type 0} {Ready : Meaning Key Id Name → F → Type 0}
         sort = i.sort;
       }
 
-  pub remembers_on : {S : Type 0} (eq : Place Key → Place Key → Bool) (memory : HashMap (Place Key) (Part Key Id) S) →
+  pub remembers_on : (eq : Place Key → Place Key → Bool) (memory : List (Place Key × Part Key Id)) →
       Remembers m (puts m f) eq memory → Remembers n (puts n g) eq memory
   remembers_on eq memory r = λ q by e.
       let k = r q by e in
@@ -88,27 +88,33 @@ module _ {Key Id Name : Type 0} (m : Meaning Key Id Name) (puts : ℕ → Tree �
     sort = i.sort ∙ s;
   }
 
-  pub remembers_more : {S : Type 0} (eq : Place Key → Place Key → Bool) (old new : HashMap (Place Key) (Part Key Id) S)
-      (p : Part Key Id) (d : ℕ) (by : Part Key Id) (place : Place Key) → place_of p d ≡ Some place →
-      IsMade m puts p d by → ((q : Place Key) → get eq new q ≡ cond (eq place q) (Some by) (get eq old q)) →
-      Remembers m puts eq old → Remembers m puts eq new
-  remembers_more eq old new p d by place o i u r = λ q x e.
-      one_more (eq place q) x by (get eq old q) (IsKept m puts eq q)
-      (λ t. record { part = p; depth = d; place = place; stands = o; same = t; is = i }) (r q) (sym (u q) ∙ e)
-
-  pub remembers_as : {S : Type 0} (eq : Place Key → Place Key → Bool) {old new : HashMap (Place Key) (Part Key Id) S} →
+  pub remembers_as : (eq : Place Key → Place Key → Bool) {old new : List (Place Key × Part Key Id)} →
       new ≡ old → Remembers m puts eq old → Remembers m puts eq new
   remembers_as eq e r = subst (λ made. Remembers m puts eq made) (sym e) r
 
-  pub remembers_same : {S : Type 0} (eq : Place Key → Place Key → Bool) (old new : HashMap (Place Key) (Part Key Id) S) →
-      ((q : Place Key) → get eq new q ≡ get eq old q) → Remembers m puts eq old → Remembers m puts eq new
-  remembers_same eq old new u r = λ q x e. r q x (sym (u q) ∙ e)
+  pub remembers_more : {E : Type 0} (eq : Place Key → Place Key → Bool) (old new : List (Place Key × Part Key Id))
+      (p : Part Key Id) (d : ℕ) (by : Part Key Id) (place : Place Key) (r : Result Bool E) → place_of p d ≡ Some place →
+      IsMade m puts p d by → (r ≡ Ok true → new ≡ old ++ (place, by) ∷ []) → (r ≡ Ok false → new ≡ old) →
+      OnErr r (new ≡ old) → Remembers m puts eq old → Remembers m puts eq new
+  remembers_more eq old new p d by place (Ok true) o i put stays err r = λ q x f.
+      elim (Contains-push_cases old (place, by) (f.key, x) (subst (λ es. Contains es (f.key, x)) (put refl) f.is_in)) [
+        | inl h ↦ r q x (record { key = f.key; is_in = h; same = f.same })
+        | inr e ↦ record {
+          part = p;
+          depth = d;
+          place = place;
+          stands = o;
+          same = subst (λ k. IsTrue (eq q k)) (sym (ap (λ z. z.0) e)) f.same;
+          is = subst (IsMade m puts p d) (ap (λ z. z.1) e) i;
+        }
+      ]
+  remembers_more eq old new p d by place (Ok false) o i put stays err r = remembers_as eq (stays refl) r
+  remembers_more eq old new p d by place (Err e) o i put stays err r = remembers_as eq err r
 
-  pub remembers_none : {S : Type 0} (eq : Place Key → Place Key → Bool) (memory : HashMap (Place Key) (Part Key Id) S) →
-      IsEmpty memory → Remembers m puts eq memory
-  remembers_none eq memory u = λ q x e.
-      let h : Some x ≡ None = sym e ∙ ap (λ es. lookup (eq q) es) u in
-      absurd (cc)
+  pub remembers_none : (eq : Place Key → Place Key → Bool) (memory : List (Place Key × Part Key Id)) → memory ≡ [] →
+      Remembers m puts eq memory
+  remembers_none eq memory e = λ q x f.
+      let lt = (subst (λ es. Contains es (f.key, x)) e f.is_in).1 in absurd (omega (arith, lt))
 
 -- What is found of a known part is what is made of it.
 module _ {Key Id Name : Type 0} (m : Meaning Key Id Name) (puts : ℕ → Tree → Option Tree) (eq : Key → Key → Bool)
@@ -120,17 +126,18 @@ module _ {Key Id Name : Type 0} (m : Meaning Key Id Name) (puts : ℕ → Tree �
   kept_made p d place by e k h =
       let here = placed (part_key p) (part_rank p) d place e in
       let there = placed (part_key h.part) (part_rank h.part) h.depth (h.place) h.stands in
-      let all = and_parts (eqb (h.place).sort place.sort)
-      (eq (h.place).key place.key && eqb (h.place).depth place.depth) h.same in
-      let rest = and_parts (eq (h.place).key place.key) (eqb (h.place).depth place.depth) all.1 in
-      let rank = eqb-true (h.place).sort place.sort all.0 in
-      let deep = eqb-true (h.place).depth place.depth rest.1 in
-      let sort = one_sort h.part p (h.place).key place.key there.0 here.0 ((there.1).0 ∙ rank ∙ sym (here.1).0) in
-      let tree = (same h.part p (h.place).key place.key there.0 here.0 (sym sort) h.is.there k).0 rest.0 in
-      made_same m puts h.part p h.depth d by tree sort ((there.1).1 ∙ deep ∙ sym (here.1).1) h.is
+      let all = and_parts (eqb place.sort (h.place).sort)
+      (eq place.key (h.place).key && eqb place.depth (h.place).depth) h.same in
+      let rest = and_parts (eq place.key (h.place).key) (eqb place.depth (h.place).depth) all.1 in
+      let rank = eqb-true place.sort (h.place).sort all.0 in
+      let deep = eqb-true place.depth (h.place).depth rest.1 in
+      let sort = one_sort p h.part place.key (h.place).key here.0 there.0 ((here.1).0 ∙ rank ∙ sym (there.1).0) in
+      let tree = (same p h.part place.key (h.place).key here.0 there.0 (sym sort) k h.is.there).0 rest.0 in
+      made_same m puts h.part p h.depth d by (sym tree) (sym sort) ((there.1).1 ∙ sym deep ∙ sym (here.1).1) h.is
 
-  pub recalled : {S : Type 0} (memory : HashMap (Place Key) (Part Key Id) S) → Remembers m puts (place_eq eq) memory →
+  pub recalled : (memory : List (Place Key × Part Key Id)) → Remembers m puts (place_eq eq) memory →
       (p : Part Key Id) (d : ℕ) (place : Place Key) → place_of p d ≡ Some place → IsTrue (known (part_tree m p)) →
-      (o : Option (Part Key Id)) → o ≡ get (place_eq eq) memory place → IfSome o (λ by. IsMade m puts p d by)
-  recalled memory r p d place s k None e = tt
-  recalled memory r p d place s k (Some by) e = kept_made p d place by s k (r place by (sym e))
+      (o : Option (Part Key Id)) → IfSome o (λ by. Finds (place_eq eq) place by memory) →
+      IfSome o (λ by. IsMade m puts p d by)
+  recalled memory r p d place s k None f = tt
+  recalled memory r p d place s k (Some by) f = kept_made p d place by s k (r place by f)

@@ -1,5 +1,5 @@
 -- Folds of trees: what a folder puts for the types, regions and constants of a tree, and what comes of the whole.
-use Rattle.std.specs.Prelude.{◌≡◌, ℕ, suc, IsTrue, Bool, true, false, Option, Some, None, option_map}
+use Rattle.std.specs.Prelude.{◌≡◌, ℕ, suc, IsTrue, Bool, true, false, List, Option, Some, None, option_map}
 use Rattle.relation_terms.specs.Heads.{Sort, region_sort, type_sort, const_sort, leaf_sort, head_sort}
 use Rattle.relation_terms.specs.Trees.{Tree, leaf, node, bind, nil, cons, known}
 use Rattle.relation_terms.specs.Meaning.{Meaning, Extends}
@@ -7,7 +7,7 @@ use Rattle.relation_terms.specs.Parts.{part_sort, part_key, part_tree}
 use Rattle.relation_terms.specs.declared.terms.part_kind.Part.{Part}
 use Rattle.relation_terms.specs.declared.terms.part_kind.Part.TheVariants.{Region, Ty, Const, ValTree, Pat, ValueType}
 use Rattle.relation_terms.specs.declared.terms.part_kind.Part.TheVariants.{Object, Binder}
-use Rattle.std.specs.HashMap.{HashMap, get}
+use Rattle.delayed_map.specs.Kept.{Finds}
 use Rattle.relation_folds.specs.declared.fold.Fold.{Fold}
 use Rattle.relation_folds.specs.declared.fold.memory.Memory.{Memory}
 use Rattle.relation_folds.specs.declared.fold.memory.Place.{Place}
@@ -104,12 +104,12 @@ module _ {Key Id Name : Type 0} (m : Meaning Key Id Name) (puts : ℕ → Tree �
     pub depth : ℕ
     pub place : Place Key
     pub stands : place_of part depth ≡ Some place
-    pub same : IsTrue (eq place q)
+    pub same : IsTrue (eq q place)
     pub is : IsMade part depth by
 
   -- What is found was made so.
-  abbrev pub Remembers : {S : Type 0} → (Place Key → Place Key → Bool) → HashMap (Place Key) (Part Key Id) S → Type 0
-  Remembers eq memory = (q : Place Key) (by : Part Key Id) → get eq memory q ≡ Some by → IsKept eq q by
+  abbrev pub Remembers : (Place Key → Place Key → Bool) → List (Place Key × Part Key Id) → Type 0
+  Remembers eq memory = (q : Place Key) (by : Part Key Id) → Finds eq q by memory → IsKept eq q by
 
 -- The same, of what a folder puts under one interner's meaning.
 abbrev pub Recalls : {I Key Id Name F : Type 0} → (Meaning Key Id Name → F → ℕ → Tree → Option Tree) →

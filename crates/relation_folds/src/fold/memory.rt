@@ -3,7 +3,6 @@
 //! What has none, as a signature, is folded each time, and so is a region; types, constants and lists are kept.
 ghost use Rattle.std.specs.Prelude.{◌≡◌, ◌≤◌, [], length, drop, fold, Some, IsTrue, IfSome};
 ghost use Rattle.std.specs.Hash.{u128 as fed_number};
-ghost use Rattle.std.specs.HashMap.{IsEmpty};
 ghost use Rattle.relation_terms.specs.Trees.{known};
 ghost use Rattle.relation_terms.specs.Parts.{part_tree};
 ghost use Rattle.relation_folds.specs.Folds.{IsMade, Recalls, place_of as the_place};
@@ -11,11 +10,9 @@ ghost use Rattle.relation_folds.specs.Places.{fed_depth};
 
 use crate::fold::TypeFolder;
 use delayed_map::CACHE_CUTOFF;
-use delayed_map::widening::widen_map;
+use delayed_map::kept::KeptMap;
 use relation_terms::terms::{Interner, OutOfMemory, Part, PartOf};
-use std::collections::HashMap;
-use std::hash::{BuildHasherDefault, Hash, Hasher};
-use term_enums::hashing::KeyHasher;
+use std::hash::{Hash, Hasher};
 
 /// A part at a depth: of which sort it is, its key, and how many binders stand around it.
 #[derive(Clone, Copy, PartialEq, Eq)]
@@ -63,7 +60,7 @@ impl<X: Hash> Hash for Place<X> {
 /// would hash.
 #[derive(Drop)]
 pub struct Memory<X: Eq + Hash, D> {
-    pub made: HashMap<Place<X>, Part<X, D>, BuildHasherDefault<KeyHasher>>,
+    pub made: KeptMap<Place<X>, Part<X, D>>,
     pub let_go: u32,
     /// The lists that are being made, each upon those that it is made for.
     pub stack: Vec<Part<X, D>>,
@@ -102,11 +99,11 @@ fn kept_place<X: Copy, D: Copy>(part: &Part<X, D>, depth: u128) -> Option<Place<
 
 /// Nothing is remembered where a fold begins, and no list is being made.
 pub fn nothing<I: Interner>(cx: &I) -> Memory<I::Key, I::Id>
-    ensures made { IsEmpty result.made }
+    ensures made { result.made ≡ [] }
     ensures stack { result.stack.items ≡ [] }
 {
     Memory {
-        made: HashMap::with_hasher(cx.alloc(), BuildHasherDefault::new()),
+        made: KeptMap::new(cx.alloc()),
         let_go: 0,
         stack: Vec::new(cx.alloc()),
     }
@@ -135,11 +132,8 @@ pub fn recall<I: Interner, F: TypeFolder<I>>(
     requires remembers { Recalls F.replaces I.meaning _cx.now _folder.now ⟦<Place<I::Key> as PartialEq>⟧.eq memory.now }
     ensures { IfSome result (IsMade (I.meaning _cx.now) (F.replaces (I.meaning _cx.now) _folder.now) part.now depth) }
 {
-    if memory.made.is_empty() {
-        return None;
-    }
     let place = kept_place(part, depth)?;
-    memory.made.get(&place).copied()
+    memory.made.get(&place)
 }
 
 /// Keeps what was made of the part at this depth, if enough were let go.
@@ -163,7 +157,6 @@ pub fn keep<I: Interner, F: TypeFolder<I>>(
     }
     if let Some(place) = kept_place(part, depth) {
         memory.made.insert(place, made)?;
-        let _ = widen_map(&mut memory.made);
     }
     Ok(())
 }

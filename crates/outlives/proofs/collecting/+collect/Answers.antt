@@ -1,5 +1,6 @@
 use Rattle.std.proofs.Common.{rules, arith, refl, sym, ap, ◌∙◌, ◌≡◌, ◌<◌, ◌+◌, ◌*◌, suc, subst, IsTrue, false, true}
 use Rattle.std.proofs.Common.{[], ◌∷◌, ◌++◌, ◌≤◌, append-nil, OnOk, cond}
+use Rattle.std.specs.Map.{keys_of}
 use Rattle.relation_terms.specs.contracts.terms.generic_arg.GenericArgKindPartialEq.TheImpl.{ghosts}
 use Rattle.relation_terms.specs.Trees.{size, count, known, nth}
 use Rattle.relation_terms.specs.Meaning.{kind_tree}
@@ -46,7 +47,7 @@ collect_alias_args-collect_members-requires g t' c κs within =
     let d = c.decreases in
     let k = c.requires in
     let small : 6 * size w + 1 < 6 * size w + 2 = omega arith in
-    let s = settled_none m eq (size w) c.none_met-visited.result.keys c.args.out.now.items c.none_met-visited.ensures in
+    let s = settled_none m eq (size w) (keys_of c.none_met-visited.result) c.args.out.now.items c.none_met-visited.ensures in
     search rules
 
 pub collect_alias_args-returns-clause-some : goal.collect_alias_args-returns-clause-some
@@ -108,7 +109,7 @@ collect_members-loop-step-init g t' c =
     record {
       adds = adds_none m (components (meant m c.args.chosen.now) ts) c.args.out.now.items;
       has = λ k l. absurd (omega (arith, l));
-      meets = meets_none m eq c.args.visited.now.keys c.args.visited.now.keys c.args.out.now.items refl;
+      meets = meets_none m eq (keys_of c.args.visited.now) (keys_of c.args.visited.now) c.args.out.now.items refl;
     }
 
 pub collect_members-collect_member-requires : goal.collect_members-collect_member-requires
@@ -127,7 +128,7 @@ collect_members-collect_member-requires g t' c κs within =
     let k = c.requires.known in
     let below : i < count ts = omega (arith, counted, bound) in
     let small : 6 * size ts < 6 * size ts + 1 = omega arith in
-    let s = settled_after m eq (size ts) c.args.visited.now.keys c.loop-step.visited.keys (components ch ts)
+    let s = settled_after m eq (size ts) (keys_of c.args.visited.now) (keys_of c.loop-step.visited) (components ch ts)
     c.args.out.now.items c.loop-step.out.items inv.adds c.requires.settled inv.meets in
     search rules
 
@@ -170,7 +171,7 @@ collect_members-loop-step-preserved g t' c =
       adds = adds;
       has = next_place (λ k. HasAll m (of_member ch (chosen_at c.args.chosen.now c.args.parts.now n k) ts) c.collect_member.new.out.items) step (step + 1)
           next (λ k l. has_grown m _ (of_member ch i ts) _ _ p.some (inv.has k l)) at;
-      meets = meets_after m eq c.args.visited.now.keys c.loop-step.visited.keys c.collect_member.new.visited.keys
+      meets = meets_after m eq (keys_of c.args.visited.now) (keys_of c.loop-step.visited) (keys_of c.collect_member.new.visited)
           (of_member ch i ts) c.loop-step.out.items c.collect_member.new.out.items p.some inv.meets r.meets;
     }
 
@@ -235,7 +236,7 @@ pub collect_member-returns-then-not-is_chosen-clause-meets : goal.collect_member
 collect_member-returns-then-not-is_chosen-clause-meets g t' c =
     let m = g.I.Interner.meaning c.args.cx.now in
     let eq = (ghosts g.row.I-Key g.I.Key.PartialEq g.I.Key.PartialEq-dict).eq in
-    meets_none m eq c.args.visited.now.keys c.args.visited.now.keys c.args.out.now.items refl
+    meets_none m eq (keys_of c.args.visited.now) (keys_of c.args.visited.now) c.args.out.now.items refl
 
 pub collect_member-collect_part-requires : goal.collect_member-collect_part-requires
 collect_member-collect_part-requires g t' c κs within =
@@ -248,7 +249,7 @@ collect_member-collect_part-requires g t' c κs within =
     let d = c.decreases in
     let k = c.member-part.ensures.sure in
     let small : 6 * size x + 5 < 6 * size ts = omega (arith, less, is) in
-    let s = settled_below m eq (size ts) (suc (size x)) c.args.visited.now.keys c.args.out.now.items
+    let s = settled_below m eq (size ts) (suc (size x)) (keys_of c.args.visited.now) c.args.out.now.items
     (omega (arith, less, is)) c.requires.settled in
     search rules
 
@@ -299,8 +300,8 @@ collect_part-returns-then-not-first-clause-all g t' c =
     let w = part_tree m p in
     let kept = c.in_ok-first-in_default.ensures in
     let b = c.in_ok-first-in_default.first in
-    let xs = c.args.visited.now.keys in
-    let ys = c.meet.new.visited.keys in
+    let xs = keys_of c.args.visited.now in
+    let ys = keys_of c.meet.new.visited in
     let had = part_had m eq same p b (suc (size w)) xs ys c.args.out.now.items kept c.if-not-first.true
     c.requires.known refl c.requires.settled in
     had
@@ -319,8 +320,8 @@ collect_part-returns-then-not-first-clause-meets g t' c =
     let w = part_tree m p in
     let kept = c.in_ok-first-in_default.ensures in
     let b = c.in_ok-first-in_default.first in
-    let xs = c.args.visited.now.keys in
-    let ys = c.meet.new.visited.keys in
+    let xs = keys_of c.args.visited.now in
+    let ys = keys_of c.meet.new.visited in
     let had = part_had m eq same p b (suc (size w)) xs ys c.args.out.now.items kept c.if-not-first.true
     c.requires.known refl c.requires.settled in
     part_meets m eq same p b xs ys c.args.out.now.items kept c.requires.known had
@@ -345,8 +346,8 @@ collect_part-collect_members-requires g t' c κs within =
     let w = part_tree m p in
     let kept = c.in_ok-first-in_default.ensures in
     let b = c.in_ok-first-in_default.first in
-    let xs = c.args.visited.now.keys in
-    let ys = c.meet.new.visited.keys in
+    let xs = keys_of c.args.visited.now in
+    let ys = keys_of c.meet.new.visited in
     let below = settled_below m eq (suc (size w)) (size w) xs c.args.out.now.items (omega arith) c.requires.settled in
     let on = part_settled m eq same p b (size w) xs ys c.args.out.now.items kept c.requires.known refl below in
     let ts = parts_tree m c.parts_of.result in
@@ -374,7 +375,7 @@ collect_part-returns-in-Region-clause-meets g t' c =
     let m = g.I.Interner.meaning c.args.cx.now in
     let eq = (ghosts g.row.I-Key g.I.Key.PartialEq g.I.Key.PartialEq-dict).eq in
     ok_any c.collect_region.result
-    (meets_none m eq c.args.visited.now.keys c.args.visited.now.keys c.collect_region.new.out.items refl)
+    (meets_none m eq (keys_of c.args.visited.now) (keys_of c.args.visited.now) c.collect_region.new.out.items refl)
 
 pub collect_part-returns-in-Ty-clause-some : goal.collect_part-returns-in-Ty-clause-some
 collect_part-returns-in-Ty-clause-some g t' c =
@@ -401,12 +402,12 @@ collect_part-returns-else-not-first g t' c =
     let w = part_tree m p in
     let kept = c.in_ok-first-in_default.ensures in
     let b = c.in_ok-first-in_default.first in
-    let xs = c.args.visited.now.keys in
-    let ys = c.meet.new.visited.keys in
+    let xs = keys_of c.args.visited.now in
+    let ys = keys_of c.meet.new.visited in
     let d = c.in_default in
     let e : components every (parts_tree m c.parts_of.result) ≡ components every w =
     ap (components every) c.parts_of.ensures.means ∙ part_has m sorted p c.requires.known d.not-Region d.not-Ty in
-    let zs = c.collect_members.new.visited.keys in
+    let zs = keys_of c.collect_members.new.visited in
     let ds = c.collect_members.new.out.items in
     record {
       some = adds_as m _ _ _ _ e c.collect_members.ensures.some;
@@ -441,8 +442,8 @@ collect_type-returns-then-not-first-clause-all g t' c =
     let w = m.ty c.args.ty in
     let kept = c.in_ok-first.ensures in
     let b = c.in_ok-first.first in
-    let xs = c.args.visited.now.keys in
-    let ys = c.meet.new.visited.keys in
+    let xs = keys_of c.args.visited.now in
+    let ys = keys_of c.meet.new.visited in
     let had = part_had m eq same p b (suc (size w)) xs ys c.args.out.now.items kept c.if-not-first.true
     c.requires.known refl c.requires.settled in
     had
@@ -461,8 +462,8 @@ collect_type-returns-then-not-first-clause-meets g t' c =
     let w = m.ty c.args.ty in
     let kept = c.in_ok-first.ensures in
     let b = c.in_ok-first.first in
-    let xs = c.args.visited.now.keys in
-    let ys = c.meet.new.visited.keys in
+    let xs = keys_of c.args.visited.now in
+    let ys = keys_of c.meet.new.visited in
     let had = part_had m eq same p b (suc (size w)) xs ys c.args.out.now.items kept c.if-not-first.true
     c.requires.known refl c.requires.settled in
     part_meets m eq same p b xs ys c.args.out.now.items kept c.requires.known had
@@ -481,8 +482,8 @@ collect_type-collect_ty-requires g t' c κs within =
     let w = m.ty c.args.ty in
     let kept = c.in_ok-first.ensures in
     let b = c.in_ok-first.first in
-    let xs = c.args.visited.now.keys in
-    let ys = c.meet.new.visited.keys in
+    let xs = keys_of c.args.visited.now in
+    let ys = keys_of c.meet.new.visited in
     let below = settled_below m eq (suc (size w)) (size w) xs c.args.out.now.items (omega arith) c.requires.settled in
     let s = part_settled m eq same p b (size w) xs ys c.args.out.now.items kept c.requires.known refl below in
     let d = c.decreases in
@@ -504,9 +505,9 @@ collect_type-returns-clause-meets g t' c =
     let w = m.ty c.args.ty in
     let kept = c.in_ok-first.ensures in
     let b = c.in_ok-first.first in
-    let xs = c.args.visited.now.keys in
-    let ys = c.meet.new.visited.keys in
-    let zs = c.collect_ty.new.visited.keys in
+    let xs = keys_of c.args.visited.now in
+    let ys = keys_of c.meet.new.visited in
+    let zs = keys_of c.collect_ty.new.visited in
     let ds = c.collect_ty.new.out.items in
     ok_both c.collect_ty.result
     (λ h o. meets_on m eq same xs ys zs ds (part_meets m eq same p b xs ys ds kept c.requires.known h) o)
@@ -520,7 +521,7 @@ collect_tys-loop-ty-init g t' c =
     record {
       adds = adds_none m (components every ts) c.args.out.now.items;
       has = λ k l. absurd (omega (arith, l));
-      meets = meets_none m eq c.args.visited.now.keys c.args.visited.now.keys c.args.out.now.items refl;
+      meets = meets_none m eq (keys_of c.args.visited.now) (keys_of c.args.visited.now) c.args.out.now.items refl;
     }
 
 pub collect_tys-collect_type-requires : goal.collect_tys-collect_type-requires
@@ -541,9 +542,9 @@ collect_tys-collect_type-requires g t' c κs within =
     let size_is : size (m.ty x) ≡ size (nth i ts) = ap size at in
     let d = c.decreases in
     let small : 6 * size (m.ty x) + 4 < 6 * size ts + 1 = omega (arith, less, size_is) in
-    let after = settled_after m eq (size ts) c.args.visited.now.keys c.loop-ty.visited.keys (components every ts)
+    let after = settled_after m eq (size ts) (keys_of c.args.visited.now) (keys_of c.loop-ty.visited) (components every ts)
     c.args.out.now.items c.loop-ty.out.items inv.adds c.requires.settled inv.meets in
-    let s = settled_below m eq (size ts) (suc (size (m.ty x))) c.loop-ty.visited.keys c.loop-ty.out.items
+    let s = settled_below m eq (size ts) (suc (size (m.ty x))) (keys_of c.loop-ty.visited) c.loop-ty.out.items
     (omega (arith, less, size_is)) after in
     search rules
 
@@ -592,7 +593,7 @@ collect_tys-loop-ty-preserved g t' c =
       adds = adds;
       has = next_place (λ k. HasAll m (of_member every k ts) c.collect_type.new.out.items) i (i + 1) next
           (λ k l. has_grown m _ (components every (m.ty x)) _ _ some (inv.has k l)) (has_as m _ _ _ (sym is) r.all);
-      meets = meets_after m eq c.args.visited.now.keys c.loop-ty.visited.keys c.collect_type.new.visited.keys
+      meets = meets_after m eq (keys_of c.args.visited.now) (keys_of c.loop-ty.visited) (keys_of c.collect_type.new.visited)
           (components every (m.ty x)) c.loop-ty.out.items c.collect_type.new.out.items some inv.meets r.meets;
     }
 
@@ -641,7 +642,7 @@ collect_form-returns-in-Param-clause-meets g t' c =
     let m = g.I.Interner.meaning c.args.cx.now in
     let eq = (ghosts g.row.I-Key g.I.Key.PartialEq g.I.Key.PartialEq-dict).eq in
     ok_any c.add.result
-    (meets_none m eq c.args.visited.now.keys c.args.visited.now.keys c.add.new.out.items refl)
+    (meets_none m eq (keys_of c.args.visited.now) (keys_of c.args.visited.now) c.add.new.out.items refl)
 
 pub collect_form-returns-in-Placeholder-clause-some : goal.collect_form-returns-in-Placeholder-clause-some
 collect_form-returns-in-Placeholder-clause-some g t' c =
@@ -668,7 +669,7 @@ collect_form-returns-in-Placeholder-clause-meets g t' c =
     let m = g.I.Interner.meaning c.args.cx.now in
     let eq = (ghosts g.row.I-Key g.I.Key.PartialEq g.I.Key.PartialEq-dict).eq in
     ok_any c.add-in-Placeholder.result
-    (meets_none m eq c.args.visited.now.keys c.args.visited.now.keys c.add-in-Placeholder.new.out.items refl)
+    (meets_none m eq (keys_of c.args.visited.now) (keys_of c.args.visited.now) c.add-in-Placeholder.new.out.items refl)
 
 pub collect_form-returns-in-Infer-clause-some : goal.collect_form-returns-in-Infer-clause-some
 collect_form-returns-in-Infer-clause-some g t' c =
@@ -695,7 +696,7 @@ collect_form-returns-in-Infer-clause-meets g t' c =
     let m = g.I.Interner.meaning c.args.cx.now in
     let eq = (ghosts g.row.I-Key g.I.Key.PartialEq g.I.Key.PartialEq-dict).eq in
     ok_any c.add-in-Infer.result
-    (meets_none m eq c.args.visited.now.keys c.args.visited.now.keys c.add-in-Infer.new.out.items refl)
+    (meets_none m eq (keys_of c.args.visited.now) (keys_of c.args.visited.now) c.add-in-Infer.new.out.items refl)
 
 pub collect_form-collect_escaping-requires : goal.collect_form-collect_escaping-requires
 collect_form-collect_escaping-requires g t' c κs within =
@@ -734,7 +735,7 @@ collect_form-returns-in-Alias-clause-meets g t' c =
     let m = g.I.Interner.meaning c.args.cx.now in
     let eq = (ghosts g.row.I-Key g.I.Key.PartialEq g.I.Key.PartialEq-dict).eq in
     ok_any c.collect_escaping.result
-    (meets_none m eq c.args.visited.now.keys c.args.visited.now.keys c.collect_escaping.new.out.items refl)
+    (meets_none m eq (keys_of c.args.visited.now) (keys_of c.args.visited.now) c.collect_escaping.new.out.items refl)
 
 pub collect_form-returns-in-Alias-2-clause-some : goal.collect_form-returns-in-Alias-2-clause-some
 collect_form-returns-in-Alias-2-clause-some g t' c =
@@ -762,7 +763,7 @@ collect_form-returns-in-Alias-2-clause-meets g t' c =
     let m = g.I.Interner.meaning c.args.cx.now in
     let eq = (ghosts g.row.I-Key g.I.Key.PartialEq g.I.Key.PartialEq-dict).eq in
     ok_any c.add-in-Alias-2.result
-    (meets_none m eq c.args.visited.now.keys c.args.visited.now.keys c.add-in-Alias-2.new.out.items refl)
+    (meets_none m eq (keys_of c.args.visited.now) (keys_of c.args.visited.now) c.add-in-Alias-2.new.out.items refl)
 
 pub collect_ty-collect_form-requires : goal.collect_ty-collect_form-requires
 collect_ty-collect_form-requires g t' c κs within =
@@ -796,7 +797,7 @@ collect_ty-collect_type-requires-in-Ref g t' c κs within =
     let is : components every w ≡ rs ++ ts = ap (components every) e ∙ ap (λ z. rs ++ z) (append-nil ts) in
     let eq = (ghosts g.row.I-Key g.I.Key.PartialEq g.I.Key.PartialEq-dict).eq in
     let n = suc (size (m.ty x.pointee)) in
-    let xs = c.args.visited.now.keys in
+    let xs = keys_of c.args.visited.now in
     let out = c.args.out.now.items in
     let next = c.collect_region.new.out.items in
     let size_is = ap size e in
@@ -852,7 +853,7 @@ collect_form-collect_members-requires g t' c κs within =
     let k : IsTrue (known (parts_tree m ps)) =
     subst (λ z. IsTrue (known z)) (sym seen) (known_parts w c.requires.known) in
     let small : 6 * size (parts_tree m ps) + 1 < 6 * size w + 2 = omega (arith, less, is) in
-    let s = settled_below m eq (size w) (size (parts_tree m ps)) c.args.visited.now.keys c.args.out.now.items
+    let s = settled_below m eq (size w) (size (parts_tree m ps)) (keys_of c.args.visited.now) c.args.out.now.items
     (omega (arith, less, is)) c.requires.settled in
     search rules
 

@@ -1,4 +1,5 @@
 use Rattle.std.proofs.Common.{◌+◌, ◌*◌, ◌<◌, ℕ}
+use Rattle.std.specs.Map.{keys_of}
 use Rattle.relation_terms.specs.Trees.{size}
 use Rattle.relation_terms.specs.Parts.{part_tree, parts_tree}
 use Rattle.relation_terms.specs.contracts.terms.generic_arg.GenericArgKindPartialEq.TheImpl.{ghosts}
@@ -44,8 +45,8 @@ invariant-collect_members-loop-step g l =
       adds : AddsSome m (components (meant m l.chosen) ts) l.fn.out.items l.out.items;
       has : (k : ℕ) → k < l.step →
           HasAll m (of_member (meant m l.chosen) (chosen_at l.chosen l.parts l.count k) ts) l.out.items;
-      meets : Meets m (ghosts g.row.I-Key g.I.Key.PartialEq g.I.Key.PartialEq-dict).eq l.fn.visited.keys
-          l.visited.keys l.out.items;
+      meets : Meets m (ghosts g.row.I-Key g.I.Key.PartialEq g.I.Key.PartialEq-dict).eq (keys_of l.fn.visited)
+          (keys_of l.visited) l.out.items;
     }
 
 -- Components were added, all those of the types gone into, and of whatever was met.
@@ -56,6 +57,6 @@ invariant-collect_tys-loop-ty g l =
     record {
       adds : AddsSome m (components every ts) l.fn.out.items l.out.items;
       has : (k : ℕ) → k < l.ty-index → HasAll m (of_member every k ts) l.out.items;
-      meets : Meets m (ghosts g.row.I-Key g.I.Key.PartialEq g.I.Key.PartialEq-dict).eq l.fn.visited.keys
-          l.visited.keys l.out.items;
+      meets : Meets m (ghosts g.row.I-Key g.I.Key.PartialEq g.I.Key.PartialEq-dict).eq (keys_of l.fn.visited)
+          (keys_of l.visited) l.out.items;
     }

@@ -1,4 +1,4 @@
-use Rattle.relation_folds.proofs.Remembering.{place_eq, remembers_more, remembers_same}
+use Rattle.relation_folds.proofs.Remembering.{place_eq, remembers_more}
 use Rattle.relation_folds.proofs.fold.memory.keep.Goals as goal
 
 pub returns-in_ok-insert-clause-remembers : goal.returns-in_ok-insert-clause-remembers
@@ -6,6 +6,6 @@ returns-in_ok-insert-clause-remembers g c =
     let m = g.I.Interner.meaning c.args._cx.now in
     let puts = g.F.TypeFolder.replaces m c.args._folder.now in
     let eq = place_eq g.I.Key.PartialEq.eq in
-    remembers_same m puts eq c.insert.new.self c.widen_map.new.map c.widen_map.ensures.finds
-    (remembers_more m puts eq (c.args.memory.now).made c.insert.new.self c.args.part.now c.args.depth c.args.made
-    c.in-Some.place c.in-Some.ensures c.requires.made c.in_ok-insert.ensures.updates.0 c.requires.remembers)
+    remembers_more m puts eq (c.args.memory.now).made c.insert.new.self c.args.part.now c.args.depth c.args.made
+    c.in-Some.place c.insert.result c.in-Some.ensures c.requires.made c.insert.ensures.new c.insert.ensures.stays
+    c.insert.ensures.err c.requires.remembers

@@ -1,4 +1,3 @@
-use Rattle.std.proofs.Common.{◌∙◌}
 use Rattle.relation_terms.proofs.Parts.{same_part}
 use Rattle.relation_folds.proofs.Remembering.{recalled}
 use Rattle.relation_folds.proofs.fold.memory.recall.Goals as goal
@@ -12,4 +11,4 @@ returns g c =
     let a = c.args._cx.now in
     recalled m puts eq (same_part m eq (laws.same_ty a) (laws.same_region a) (laws.same_const a) (laws.same_valtree a)
     (laws.same_pat a) (laws.same_existential_predicates a)) (c.args.memory.now).made c.requires.remembers c.args.part.now
-    c.args.depth c.in_ok-place.place c.in_ok-place.ensures c.requires.known c.copied.result (c.copied.ensures ∙ c.get.ensures.value)
+    c.args.depth c.in_ok-place.place c.in_ok-place.ensures c.requires.known c.get.result c.get.ensures
