@@ -110,9 +110,9 @@ fn widen<P: Eq + Hash>(values: &mut Vec<P>, places: &mut Vec<u32>) -> Result<(),
 {
     let amount = places.len().saturating_mul(4).max(LEAST);
     values.reserve(amount / 2)?;
-    places.reserve(amount)?;
-    places.clear();
-    places.resize(amount, NO_VALUE)?;
+    let mut wider = Vec::new(*places.allocator());
+    wider.resize(amount, NO_VALUE)?;
+    *places = wider;
     for number in 0..values.len() {
         lead_to(values.as_slice(), places.as_mut_slice(), number);
     }
