@@ -60,7 +60,9 @@ impl RefInterner {
         }
     }
 
-    // The key of a node of a new form, which is put at the end. All growths come before anything is written.
+    // The key of a node of a new form, which is put at the end. All growths come before anything is written. It stands
+    // apart, so that to find a node takes little of the stack.
+    #[inline(never)]
     fn put(&mut self, node: Node) -> Result<NodeKey, OutOfMemory>
         requires known { let m = table_meaning (items_in self.old) self.old.nodes in
             IsTrue (known_entry (entry_of m node)) }

@@ -32,6 +32,7 @@ use crate::terms::{
 };
 
 // The key of a part, if it has one of its own.
+#[inline(always)]
 pub fn key_of<X: Copy, D: Copy>(part: &Part<X, D>) -> Option<X>
     ensures { result ≡ part_key part.now }
 {

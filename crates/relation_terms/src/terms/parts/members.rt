@@ -106,7 +106,9 @@ fn tys_of<X: Copy, D: Copy>(
     Ok(list)
 }
 
-// Parts that are constants, as the list of these.
+// Parts that are constants, as the list of these. What is seldom made stands apart: so `make_parts` is short enough to
+// be made one with its callers, which know the list's sort.
+#[inline(never)]
 fn consts_of<X: Copy, D: Copy>(
     parts: &[Part<X, D>],
     alloc: Global,
@@ -122,6 +124,7 @@ fn consts_of<X: Copy, D: Copy>(
 }
 
 // Parts that are patterns, as the list of these.
+#[inline(never)]
 fn pats_of<X: Copy, D: Copy>(
     parts: &[Part<X, D>],
     alloc: Global,
@@ -137,6 +140,7 @@ fn pats_of<X: Copy, D: Copy>(
 }
 
 // Parts that are predicates of a trait object, as the list of these.
+#[inline(never)]
 fn predicates_of<X: Copy, D: Copy>(
     parts: &[Part<X, D>],
     alloc: Global,
@@ -152,6 +156,7 @@ fn predicates_of<X: Copy, D: Copy>(
 }
 
 // The list of a term, then arguments, of which these are the members.
+#[inline(never)]
 fn make_term_args<I: Interner>(cx: &mut I, members: &[PartOf<I>]) -> Result<PartsOf<I>, OutOfMemory>
     requires members_known { IsTrue (known (list_tree (part_tree (I.meaning cx.old)) members.now)) }
     requires fits { IsTermList members.now }
@@ -168,6 +173,7 @@ fn make_term_args<I: Interner>(cx: &mut I, members: &[PartOf<I>]) -> Result<Part
 }
 
 // The inputs that these members are, before the last type of a list.
+#[inline(never)]
 fn make_inputs<I: Interner>(
     cx: &mut I,
     tys: &Tys<I>,
@@ -225,6 +231,7 @@ fn inputs_of<I: Interner>(cx: &I, tys: &Tys<I>) -> Result<Vec<Ty<I>>, OutOfMemor
 ///
 /// The interner has to know both. Answers `OutOfMemory` where a growth was refused, which leaves the meaning of all
 /// keys as it was.
+#[inline(always)]
 pub fn make_parts<I: Interner>(
     cx: &mut I,
     like: &PartsOf<I>,

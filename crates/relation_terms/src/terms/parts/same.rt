@@ -116,6 +116,7 @@ fn is_same_binder<I: Interner>(
 }
 
 // Whether two parts without keys of their own have the same fields.
+#[inline(never)]
 fn is_same_inside<I: Interner>(cx: &I, part: &PartOf<I>, other: &PartOf<I>) -> bool
     requires part_known { IsTrue (known (part_tree (I.meaning cx.now) part.now)) }
     requires other_known { IsTrue (known (part_tree (I.meaning cx.now) other.now)) }
@@ -142,6 +143,7 @@ fn is_same_inside<I: Interner>(cx: &I, part: &PartOf<I>, other: &PartOf<I>) -> b
 /// Whether two parts of one sort are one term. The interner has to know both.
 ///
 /// Of parts that have a key it is exact. Of all others a yes is true; a no says that they were made of other lists.
+#[inline(always)]
 pub fn is_same<I: Interner>(cx: &I, part: &PartOf<I>, other: &PartOf<I>) -> bool
     requires part_known { IsTrue (known (part_tree (I.meaning cx.now) part.now)) }
     requires other_known { IsTrue (known (part_tree (I.meaning cx.now) other.now)) }
