@@ -65,6 +65,7 @@ pub fn have_no_variable<Infcx: InferCtxtLike>(
 }
 
 // Whether a type of a context is ordinary: neither an error, nor a variable, nor an alias.
+#[inline(always)]
 fn is_ordinary<Infcx: InferCtxtLike>(infcx: &Infcx, ty: &Ty<Infcx::Interner>) -> bool
     requires { KnowsTy (Infcx.state infcx.now) ty.now }
     ensures { IsTrue result ↔ IsOrdinary ((Infcx.state infcx.now).meaning.ty ty.now) }
@@ -77,6 +78,7 @@ fn is_ordinary<Infcx: InferCtxtLike>(infcx: &Infcx, ty: &Ty<Infcx::Interner>) ->
 
 /// Whether two types of a context are ordinary: neither errors, nor variables, nor aliases. Such a pair is left to its
 /// parts: nothing is bound, recorded or registered before. Upstream it is the last case of `super_combine_tys`.
+#[inline(always)]
 pub fn are_ordinary<Infcx: InferCtxtLike>(
     infcx: &Infcx,
     a: &Ty<Infcx::Interner>,
