@@ -164,7 +164,7 @@ impl<P: Eq + Copy> KeptValues<P> {
     pub(crate) fn contains(&self, value: &P, first: u32) -> bool
         ensures { IsTrue result → IsTrue (list_any (P.eq value.now) self.now.kept) }
     {
-        if self.values.is_empty() {
+        if self.places.is_empty() {
             return false;
         }
         match find(self.values.as_slice(), self.places.as_slice(), value, first) {
