@@ -22,9 +22,7 @@ use crate::relation::SolverRelating;
 use relation_combining::combine::{
     PredicateEmittingRelation, combine_ty_args, super_combine_consts, super_combine_tys,
 };
-use relation_combining::variables::{
-    are_aliases_by_parts, are_ordinary, have_no_variable, ty_var,
-};
+use relation_combining::variables::{are_aliases_by_parts, are_ordinary, have_no_variable, ty_var};
 use relation_folds::error::RelateResult;
 use relation_folds::fold::TypeFoldable;
 use relation_folds::visit::TypeVisitable;

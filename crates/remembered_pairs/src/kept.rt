@@ -188,6 +188,12 @@ impl<P: Eq + Copy> KeptValues<P> {
         if self.values.len() >= self.places.len() / 2 {
             widen(&mut self.values, &mut self.firsts, &mut self.places)?;
         }
-        put(&mut self.values, &mut self.firsts, &mut self.places, value, first)
+        put(
+            &mut self.values,
+            &mut self.firsts,
+            &mut self.places,
+            value,
+            first,
+        )
     }
 }
