@@ -8,7 +8,7 @@ use Rattle.part_variances.specs.Handing.{named_place}
 use Rattle.part_variances.proofs.Handed.{named_output, part_unnamed, above, no_signature_inputs}
 use Rattle.part_variances.proofs.handing.named_place.Goals as goal
 
-pub member_count-requires : goal.parts_count-requires
+pub member_count-requires : goal.member_count-requires
 member_count-requires g c =
     let m = g.I.Interner.meaning c.args.cx.now in
     let s = c.in-Signature.sig in
