@@ -1,4 +1,4 @@
-use Rattle.std.proofs.Common.{sym, subst, ◌∙◌}
+use Rattle.std.proofs.Common.{rules, sym, subst, ◌∙◌, IsTrue}
 use Rattle.std.proofs.lemmas.Bool.{false≢true}
 use Rattle.relation_combining.specs.Deferring.{StandsAs}
 use Rattle.relation_combining.specs.declared.deferring.Standing.TheVariants.{Alias}
@@ -14,7 +14,9 @@ returns g c = λ yes.
     StandsAs Alias ((r.meaning).ty t) =
     λ t s. subst (λ m. StandsAs Alias (m.ty t)) (sym o.meaning)
     (subst (λ z. StandsAs Alias (((g.Infcx.InferCtxtLike.state z).meaning).ty t)) c.infcx.ensures s) in
+    let t = c.if-not-is_plain_alias.false in
+    let left : IsTrue c.is_plain_alias.result = search rules in
     aliases_by_parts r c.args.a.now c.args.b.now
     (λ d. false≢true (sym c.if-defers_aliases.false ∙ c.defers_aliases.ensures.1 d))
-    (there c.args.a.now (c.is_plain_alias.ensures c.if-is_plain_alias.true))
+    (there c.args.a.now (c.is_plain_alias.ensures left))
     (there c.args.b.now (c.is_plain_alias-2.ensures yes))
