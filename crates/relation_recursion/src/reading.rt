@@ -1,5 +1,5 @@
 //! Reading terms through a relation's interner.
-ghost use Rattle.std.specs.Prelude.{◌≡◌, ◌≢◌, ◌↔◌, ◌<◌, None, IsTrue, IsFalse, OnOk, IfOk, IfErr};
+ghost use Rattle.std.specs.Prelude.{◌≡◌, ◌≢◌, ◌↔◌, ◌<◌, None, IsTrue, OnOk, IfOk, IfErr};
 ghost use Rattle.relation_terms.specs.Trees.{known, count, nth, IsList};
 ghost use Rattle.term_enums.specs.declared.Variance.TheVariants.{Bivariant};
 ghost use Rattle.relation_terms.specs.Meaning.{arg_tree};
@@ -8,7 +8,6 @@ ghost use Rattle.relation_semantics.specs.Relation.{IsError};
 ghost use Rattle.relation_semantics.specs.Errors.{FormError, ConstFormError, AreOfOneForm, AreOfOneConst};
 ghost use Rattle.relation_semantics.specs.Errors.{HaveNoError};
 ghost use Rattle.relation_semantics.specs.Parts.{IsFormedConst, IsByParts, IsComparedPart, direct_parts, const_parts_of};
-ghost use Rattle.relation_steps.specs.Arguments.{AreOverItem};
 ghost use Rattle.relation_steps.specs.Keyed.{ShownTys, NotedTys, TysAskOpen, AreOver};
 ghost use Rattle.relation_steps.specs.Terms.{AskedTerms};
 ghost use Rattle.relation_recursion.specs.Comparing.{AreOfOneFormBy, PartsDiffer, nth_part, nth_const_part};
@@ -194,39 +193,6 @@ pub(crate) fn note_declared<I: Interner, R: TypeRelation<I>>(
 // The same of two types, if they are over an item whose arguments have declared variances.
 #[inline(always)]
 pub(crate) fn note_args<I: Interner, R: TypeRelation<I>>(
-    r: &mut R,
-    a: &Ty<I>,
-    b: &Ty<I>,
-) -> RelateResult<I, ()>
-    requires lawful { (R.state r.old).lawful }
-    requires decides { (R.state r.old).ambient ≢ Bivariant }
-    requires asked { AskedTerms R.manner None (λ m. m.ty) (R.state r.old) a.now b.now }
-    requires one_form { AreOfOneForm ((R.state r.old).meaning.ty a.now) ((R.state r.old).meaning.ty b.now) }
-    requires related { ShownTys R.manner (R.state r.old) a.now b.now }
-    ensures noted { NotedTys (R.state r.old) (R.state r.new) a.now b.now result }
-    ensures asks { TysAskOpen R.manner (R.state r.old) (R.state r.new) a.now b.now result }
-{
-    if !is_over_item(r.cx(), a) {
-        return Ok(());
-    }
-    note_args_of_item(r, a, b)
-}
-
-// Whether a type is over an item whose arguments have declared variances.
-#[inline(always)]
-fn is_over_item<I: Interner>(cx: &I, ty: &Ty<I>) -> bool
-    requires { IsTrue (known ((I.meaning cx.now).ty ty.now)) }
-    ensures { let m = I.meaning cx.now in IsFalse result → (d b ts us : _) → AreOverItem d (m.ty ty.now) b ts us → ⊥ }
-{
-    match cx.ty_kind(ty) {
-        TyKind::Adt(..) | TyKind::FnDef(..) => true,
-        _ => false,
-    }
-}
-
-// The same, whether or not the left one is such a type. It stands apart from the recursion, so that no form is kept there.
-#[inline(never)]
-fn note_args_of_item<I: Interner, R: TypeRelation<I>>(
     r: &mut R,
     a: &Ty<I>,
     b: &Ty<I>,

@@ -1,18 +1,38 @@
-use Rattle.std.proofs.Common.{rules, ◌≡◌, subst, IsFalse}
+use Rattle.std.proofs.Common.{◌≡◌, subst}
+use Rattle.relation_terms.specs.Meaning.{kind_tree}
 use Rattle.relation_semantics.proofs.Passing.{noted_nothing}
-use Rattle.relation_steps.specs.Arguments.{AreOverItem}
+use Rattle.relation_recursion.proofs.OverItems.{adt_beside_other, fn_beside_other, over_none}
 use Rattle.relation_recursion.proofs.reading.note_args.Goals as goal
 
-pub returns-then-not-is_over_item-clause-noted : goal.returns-then-not-is_over_item-clause-noted
-returns-then-not-is_over_item-clause-noted g c = noted_nothing tt (g.R.HasState.state c.args.r.now) _ _
+pub returns-in_default-ty_kind-clause-noted : goal.returns-in_default-ty_kind-clause-noted
+returns-in_default-ty_kind-clause-noted g c = noted_nothing tt (g.R.HasState.state c.args.r.now) _ _
 
--- The left one is over no item.
-pub returns-then-not-is_over_item-clause-asks : goal.returns-then-not-is_over_item-clause-asks
-returns-then-not-is_over_item-clause-asks g c = λ promised directed d ts us over opens.
-    let a = c.args.a.now in
-    let t = c.if-not-is_over_item.true in
-    let no : IsFalse c.is_over_item.result = search rules in
+pub returns-in_default-ty_kind-2-clause-noted : goal.returns-in_default-ty_kind-2-clause-noted
+returns-in_default-ty_kind-2-clause-noted g c = noted_nothing tt (g.R.HasState.state c.args.r.now) _ _
+
+pub returns-in_default-clause-noted : goal.returns-in_default-clause-noted
+returns-in_default-clause-noted g c = noted_nothing tt (g.R.HasState.state c.args.r.now) _ _
+
+-- Two types are not over one item, of which one is over none.
+pub returns-in_default-ty_kind-clause-asks : goal.returns-in_default-ty_kind-clause-asks
+returns-in_default-ty_kind-clause-asks g c = λ promised directed d ts us over opens.
     let m = (g.R.HasState.state c.args.r.now).meaning in
-    let none = subst (λ m. (d b ts us : _) → AreOverItem d (m.ty a) b ts us → ⊥) c.cx.ensures
-    (c.is_over_item.ensures no) in
-    absurd (none d (m.ty c.args.b.now) ts us over)
+    let left = subst (λ m. m.ty c.args.a.now ≡ kind_tree m c.ty_kind-left.result) c.cx.ensures c.ty_kind-left.ensures in
+    let right = subst (λ m. m.ty c.args.b.now ≡ kind_tree m c.ty_kind.result) c.cx-in-Adt.ensures c.ty_kind.ensures in
+    absurd (adt_beside_other m c.ty_kind-left.result c.ty_kind.result left right c.in-Adt.def c.in-Adt.a_args c.in-Adt.is
+    c.in_default-ty_kind.not-Adt over)
+
+pub returns-in_default-ty_kind-2-clause-asks : goal.returns-in_default-ty_kind-2-clause-asks
+returns-in_default-ty_kind-2-clause-asks g c = λ promised directed d ts us over opens.
+    let m = (g.R.HasState.state c.args.r.now).meaning in
+    let other = c.ty_kind-in-FnDef in
+    let left = subst (λ m. m.ty c.args.a.now ≡ kind_tree m c.ty_kind-left.result) c.cx.ensures c.ty_kind-left.ensures in
+    let right = subst (λ m. m.ty c.args.b.now ≡ kind_tree m other.result) c.cx-in-FnDef.ensures other.ensures in
+    absurd (fn_beside_other m c.ty_kind-left.result other.result left right c.in-FnDef.def c.in-FnDef.a_args c.in-FnDef.is
+    c.in_default-ty_kind-2.not-FnDef over)
+
+pub returns-in_default-clause-asks : goal.returns-in_default-clause-asks
+returns-in_default-clause-asks g c = λ promised directed d ts us over opens.
+    let m = (g.R.HasState.state c.args.r.now).meaning in
+    let is = subst (λ m. m.ty c.args.a.now ≡ kind_tree m c.ty_kind-left.result) c.cx.ensures c.ty_kind-left.ensures in
+    absurd (over_none m c.ty_kind-left.result is c.in_default.not-Adt c.in_default.not-FnDef over)
