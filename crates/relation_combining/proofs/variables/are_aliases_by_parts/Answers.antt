@@ -10,10 +10,10 @@ returns g c = λ yes.
     let x = c.args.relation.now in
     let r = g.R.HasState.state x in
     let o = g.met.R.PredicateEmittingRelation.over x in
-    let there : (t : _) → StandsAs Alias (((g.Infcx.InferCtxtLike.state c.infcx.result.now).meaning).ty t) →
+    let there : (t : _) → StandsAs Alias (((g.Infcx.InferCtxtLike.state c.infcx-infcx.result.now).meaning).ty t) →
     StandsAs Alias ((r.meaning).ty t) =
     λ t s. subst (λ m. StandsAs Alias (m.ty t)) (sym o.meaning)
-    (subst (λ z. StandsAs Alias (((g.Infcx.InferCtxtLike.state z).meaning).ty t)) c.infcx.ensures s) in
+    (subst (λ z. StandsAs Alias (((g.Infcx.InferCtxtLike.state z).meaning).ty t)) c.infcx-infcx.ensures s) in
     let t = c.if-not-is_plain_alias.false in
     let left : IsTrue c.is_plain_alias.result = search rules in
     aliases_by_parts r c.args.a.now c.args.b.now
