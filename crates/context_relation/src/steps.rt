@@ -91,8 +91,8 @@ impl<'a, Infcx: InferCtxtLike> SolverRelating<'a, Infcx> {
     }
 
     // What comes of two types as they are read: of a pair that is remembered the left one, and nothing is done; of
-    // another what combining says, which leaves ordinary types to their parts. Where that is an answer the pair is
-    // remembered.
+    // another what combining says, which leaves ordinary types to their parts, and aliases that are left to no goal.
+    // Where that is an answer the pair is remembered.
     #[inline(always)]
     fn step_read(
         &mut self,
