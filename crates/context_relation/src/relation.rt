@@ -186,6 +186,8 @@ impl<'a, Infcx: InferCtxtLike> TypeRelation<Infcx::Interner> for SolverRelating<
         Some(self.infcx.cx().variances_of(def_id))
     }
 
+    // It stands within the recursion: so its answer, which may be a long error, is not handed on through memory.
+    #[inline(always)]
     fn tys(
         &mut self,
         a: &Ty<Infcx::Interner>,

@@ -1,8 +1,8 @@
 //! What the relation of a context does of two types, constants, regions or binders that meet.
-ghost use Rattle.std.specs.Prelude.{◌≡◌, ◌≢◌, ◌<◌};
+ghost use Rattle.std.specs.Prelude.{◌≡◌, ◌≢◌, ◌<◌, IsTrue};
 ghost use Rattle.relation_terms.specs.Heads.{type_var, variable};
 ghost use Rattle.relation_terms.specs.Trees.{leaf};
-ghost use Rattle.term_enums.specs.declared.Variance.TheVariants.{Bivariant};
+ghost use Rattle.term_enums.specs.declared.Variance.TheVariants.{Bivariant, Invariant};
 ghost use Rattle.relation_semantics.specs.AskedAlone.{IsNoTyVar};
 ghost use Rattle.relation_semantics.specs.Contexts.{KnowsTy};
 ghost use Rattle.relation_semantics.specs.ContextCalls.{IsUnresolved};
@@ -22,7 +22,7 @@ use crate::relation::SolverRelating;
 use relation_combining::combine::{
     PredicateEmittingRelation, combine_ty_args, super_combine_consts, super_combine_tys,
 };
-use relation_combining::variables::{are_ordinary, have_no_variable, ty_var};
+use relation_combining::variables::{are_aliases_by_parts, are_ordinary, have_no_variable, ty_var};
 use relation_folds::error::RelateResult;
 use relation_folds::fold::TypeFoldable;
 use relation_folds::visit::TypeVisitable;
@@ -32,6 +32,16 @@ use relation_goals::recording::relate_regions;
 use relation_semantics::infer_ctxt::{BinderOf, InferCtxtLike};
 use relation_semantics::relate::Step;
 use relation_terms::terms::{Const, GenericArgs, Interner, ItemOf, Region, Ty, TyVid, Variance};
+
+// Whether a round comes behind the last one: there are two at invariance, and one else.
+fn is_behind_last(variance: Variance, round: usize) -> bool
+    ensures { IsTrue result → (0 < round) × (variance ≢ Invariant) }
+{
+    match variance {
+        Variance::Invariant => false,
+        Variance::Covariant | Variance::Contravariant | Variance::Bivariant => round > 0,
+    }
+}
 
 impl<'a, Infcx: InferCtxtLike> SolverRelating<'a, Infcx> {
     /// What comes of two types, before their parts are related. Of one and the same it is the answer. Two in one of which
@@ -81,8 +91,8 @@ impl<'a, Infcx: InferCtxtLike> SolverRelating<'a, Infcx> {
     }
 
     // What comes of two types as they are read: of a pair that is remembered the left one, and nothing is done; of
-    // another what combining says, which leaves ordinary types to their parts. Where that is an answer the pair is
-    // remembered.
+    // another what combining says, which leaves ordinary types to their parts, and aliases that are left to no goal.
+    // Where that is an answer the pair is remembered.
     #[inline(always)]
     fn step_read(
         &mut self,
@@ -102,6 +112,9 @@ impl<'a, Infcx: InferCtxtLike> SolverRelating<'a, Infcx> {
             return Ok(Step::Done(*a));
         }
         if are_ordinary(&*self.infcx, a, b) {
+            return Ok(Step::Parts { a: *a, b: *b });
+        }
+        if are_aliases_by_parts::<Infcx, SolverRelating<'a, Infcx>>(self, a, b) {
             return Ok(Step::Parts { a: *a, b: *b });
         }
         self.step_anew(a, b)
@@ -319,6 +332,9 @@ impl<'a, Infcx: InferCtxtLike> SolverRelating<'a, Infcx> {
         ensures steps { SolverStepsBinders Infcx.state T.tree self.old self.new round a.now b.now result }
         ensures registers_nothing { KeepsGoals Infcx.state self.old self.new }
     {
+        if is_behind_last(self.ambient_variance, round) {
+            return Ok(None);
+        }
         if !one_uses(&*self.infcx, a, b) {
             if round > 0 {
                 return Ok(None);

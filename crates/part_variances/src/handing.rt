@@ -8,9 +8,9 @@ ghost use Rattle.part_variances.specs.Handing.{IsResultOfPart, IsPlacedOrNot, na
 use relation_folds::error::{
     ExpectedFound, RelateFault, RelateFaultOf, RelateResult, TypeError, TypeErrorOf,
 };
-use relation_terms::terms::parts::parts_count;
+use relation_terms::terms::parts::member_count;
 use relation_terms::terms::{
-    Const, ConstKind, GenericArg, GenericArgKind, Interner, Part, PartOf, Ty, TyKind,
+    Const, ConstKind, GenericArg, GenericArgKind, Interner, Part, PartOf, Parts, Ty, TyKind,
 };
 
 // The fault of two types where one of their parts has failed: lengths of arrays that differ are sizes that differ.
@@ -119,7 +119,7 @@ pub fn named_place<I: Interner>(cx: &I, term: &PartOf<I>, i: usize) -> Option<us
             if i == 0 {
                 return None;
             }
-            Some(parts_count(cx, &Part::Inputs(sig.inputs_and_output)))
+            Some(member_count(cx, &Parts::Inputs(sig.inputs_and_output)))
         }
         _ => None,
     }

@@ -20,7 +20,9 @@ use Rattle.relation_semantics.specs.Parts.{IsFormedConst}
 use Rattle.relation_semantics.specs.Relation.{IsError, IsAlias}
 use Rattle.relation_semantics.specs.Settings.{Settings, DefersAliases, LeavesOpaque}
 use Rattle.relation_semantics.proofs.Deferring.{opaque_is_alias, beside_is_opaque}
-use Rattle.relation_combining.specs.Deferring.{IsVariable, IsOrdinary, StandsAs, LeftAs}
+use Rattle.relation_semantics.specs.Lawful.{State}
+use Rattle.relation_terms.specs.declared.terms.keys.TyKey.{TyKey}
+use Rattle.relation_combining.specs.Deferring.{IsVariable, IsOrdinary, StandsAs, LeftAs, AreByParts}
 use Rattle.relation_combining.specs.declared.deferring.Standing.{Standing}
 use Rattle.relation_combining.specs.declared.deferring.Standing.TheVariants.{Error, Variable, Opaque, Alias, Other}
 use Rattle.relation_combining.specs.declared.deferring.Deferring.TheVariants.{ToNone}
@@ -142,6 +144,16 @@ no_goal_open k a b l f g (inr (_, inr o)) = g o
 pub no_goal_ever : (k : Settings) (a b : Tree) → (DefersAliases k → ⊥) → (LeavesOpaque k → ⊥) → LeftAs k a b ToNone
 no_goal_ever k a b l f (inl (o, _)) = l o
 no_goal_ever k a b l f (inr (o, _)) = f o
+
+-- Aliases that are no opaque types are left to their parts, where aliases are left to no goals.
+pub aliases_by_parts : {Key Id Name : Type 0} (r : State Key Id Name) (a b : TyKey Key) →
+    (DefersAliases r.kept.settings → ⊥) → StandsAs Alias ((r.meaning).ty a) → StandsAs Alias ((r.meaning).ty b) →
+    AreByParts r a b
+aliases_by_parts r a b n s o = let t = (r.meaning).ty a in let u = (r.meaning).ty b in (
+  (λ e. error_no_alias t e s.0, λ v. variable_no_alias t v s.0),
+  (λ e. error_no_alias u e o.0, λ v. variable_no_alias u v o.0),
+  no_goal_open r.kept.settings t u n (λ h. s.1 (beside_is_opaque t u h)) (λ h. o.1 (beside_is_opaque u t h)),
+)
 
 -- A constant with an outermost form is no opaque type.
 pub formed_no_opaque : (t u : Tree) → IsFormedConst t → IsOpaqueBeside t u → ⊥

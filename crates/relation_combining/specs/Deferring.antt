@@ -44,3 +44,8 @@ LeftAs k a b ToNone = IsDeferred k a b → ⊥
 abbrev pub DefersConst : {Key Id Name : Type 0} → State Key Id Name → ConstKey Key → ConstKey Key → Type 0
 DefersConst r a b =
     DefersAliases r.kept.settings × (IsAlias ((r.meaning).const_ a) ⊎ IsAlias ((r.meaning).const_ b))
+
+-- Two types are left to be related by their parts: neither is an error or a variable, and they are left to no goal.
+abbrev pub AreByParts : {Key Id Name : Type 0} → State Key Id Name → TyKey Key → TyKey Key → Type 0
+AreByParts r a b = let t = (r.meaning).ty a in let u = (r.meaning).ty b in
+    ((IsError t → ⊥) × (IsVariable t → ⊥)) × ((IsError u → ⊥) × (IsVariable u → ⊥)) × (IsDeferred r.kept.settings t u → ⊥)

@@ -87,7 +87,9 @@ fn is_open(left: Standing, right: Standing) -> bool
 }
 
 // Whether a relation leaves aliases to goals.
-fn defers_aliases<Infcx: InferCtxtLike, R: PredicateEmittingRelation<Infcx>>(relation: &R) -> bool
+pub(crate) fn defers_aliases<Infcx: InferCtxtLike, R: PredicateEmittingRelation<Infcx>>(
+    relation: &R,
+) -> bool
     ensures { IsTrue result ↔ DefersAliases (R.state relation.now).kept.settings }
 {
     if !relation.infcx().next_trait_solver() {

@@ -3,11 +3,13 @@ ghost use Rattle.std.specs.Prelude.{◌≡◌, ◌↔◌, ℕ, false, not, IsTru
 ghost use Rattle.relation_terms.specs.Flags.{has_non_region_infer};
 ghost use Rattle.relation_terms.specs.Trees.{known};
 ghost use Rattle.relation_semantics.specs.Contexts.{KnowsTy, KnowsConst};
-ghost use Rattle.relation_combining.specs.Deferring.{IsOrdinary, AreOrdinary};
+ghost use Rattle.relation_combining.specs.Deferring.{IsOrdinary, AreOrdinary, StandsAs, AreByParts};
+ghost use Rattle.relation_combining.specs.declared.deferring.Standing.TheVariants.{Alias};
 ghost use Rattle.relation_combining.specs.Variables.{MeansTyVar, MeansConstVar, IsFormedWithin, IsFormedConstWithin};
 ghost use Rattle.relation_combining.specs.Variables.{one_has_variable};
 
-use crate::deferring::{Standing, ty_standing};
+use crate::combine::PredicateEmittingRelation;
+use crate::deferring::{Standing, defers_aliases, ty_standing};
 use relation_semantics::infer_ctxt::InferCtxtLike;
 pub use relation_semantics::variable_forms::{const_vid, float_vid, int_vid, ty_vid};
 use relation_terms::terms::{Const, ConstVid, Interner, Ty, TyVid};
@@ -63,6 +65,7 @@ pub fn have_no_variable<Infcx: InferCtxtLike>(
 }
 
 // Whether a type of a context is ordinary: neither an error, nor a variable, nor an alias.
+#[inline(always)]
 fn is_ordinary<Infcx: InferCtxtLike>(infcx: &Infcx, ty: &Ty<Infcx::Interner>) -> bool
     requires { KnowsTy (Infcx.state infcx.now) ty.now }
     ensures { IsTrue result ↔ IsOrdinary ((Infcx.state infcx.now).meaning.ty ty.now) }
@@ -75,6 +78,7 @@ fn is_ordinary<Infcx: InferCtxtLike>(infcx: &Infcx, ty: &Ty<Infcx::Interner>) ->
 
 /// Whether two types of a context are ordinary: neither errors, nor variables, nor aliases. Such a pair is left to its
 /// parts: nothing is bound, recorded or registered before. Upstream it is the last case of `super_combine_tys`.
+#[inline(always)]
 pub fn are_ordinary<Infcx: InferCtxtLike>(
     infcx: &Infcx,
     a: &Ty<Infcx::Interner>,
@@ -88,4 +92,39 @@ pub fn are_ordinary<Infcx: InferCtxtLike>(
         return false;
     }
     is_ordinary(infcx, b)
+}
+
+// Whether a type of a context is an alias, and no opaque type.
+#[inline(always)]
+fn is_plain_alias<Infcx: InferCtxtLike>(infcx: &Infcx, ty: &Ty<Infcx::Interner>) -> bool
+    requires { KnowsTy (Infcx.state infcx.now) ty.now }
+    ensures { IsTrue result → StandsAs Alias ((Infcx.state infcx.now).meaning.ty ty.now) }
+{
+    match ty_standing(infcx, ty) {
+        Standing::Alias => true,
+        _ => false,
+    }
+}
+
+/// Whether two types are aliases that a relation leaves to their parts: no opaque types, and set up so that aliases are
+/// not left to goals. Nothing is bound, recorded or registered before. Upstream it is the last case of
+/// `super_combine_tys`, as for ordinary types.
+#[inline(always)]
+pub fn are_aliases_by_parts<Infcx: InferCtxtLike, R: PredicateEmittingRelation<Infcx>>(
+    relation: &R,
+    a: &Ty<Infcx::Interner>,
+    b: &Ty<Infcx::Interner>,
+) -> bool
+    requires a_known { IsTrue (known ((R.state relation.now).meaning.ty a.now)) }
+    requires b_known { IsTrue (known ((R.state relation.now).meaning.ty b.now)) }
+    ensures { IsTrue result → AreByParts (R.state relation.now) a.now b.now }
+{
+    if defers_aliases::<Infcx, R>(relation) {
+        return false;
+    }
+    let infcx = relation.infcx();
+    if !is_plain_alias(infcx, a) {
+        return false;
+    }
+    is_plain_alias(infcx, b)
 }

@@ -5,10 +5,8 @@ ghost use Rattle.remembered_pairs.specs.declared.kept.Found.TheVariants.{Equal};
 
 use delayed_map::CACHE_CUTOFF;
 use std::alloc::Global;
-use std::hash::{Hash, Hasher};
 use std::marker::Model;
 use term_enums::OutOfMemory;
-use term_enums::hashing::KeyHasher;
 
 // What stands at a place that leads to no value.
 const NO_VALUE: u32 = u32::MAX;
@@ -19,14 +17,16 @@ const LEAST: usize = 128;
 /// Values, but for the first 32, each once. Its table of places grows before every second one is taken, so that what
 /// isn't kept is told by one place, and one look-up in memory.
 #[derive(Drop)]
-pub(crate) struct KeptValues<P: Eq + Hash> {
+pub(crate) struct KeptValues<P: Eq> {
     values: Vec<P>,
-    // The numbers of values, by the places that their hashes lead to.
+    // Where looking for each value begins, by their numbers.
+    firsts: Vec<u32>,
+    // The numbers of values, by the places that these lead to.
     places: Vec<u32>,
     let_go: u32,
 }
 
-impl<P: Eq + Hash> Model for KeptValues<P> {
+impl<P: Eq> Model for KeptValues<P> {
     ghost use Rattle.delayed_map.specs.Delayed.{Delayed, delayed_code};
 
     ghost Value = { Delayed P };
@@ -42,14 +42,6 @@ enum Found {
     Equal,
     Free(usize),
     Other,
-}
-
-// Where looking for a value begins.
-#[inline(always)]
-fn first_place<P: Hash>(value: &P) -> usize {
-    let mut hasher = KeyHasher::default();
-    value.hash(&mut hasher);
-    (hasher.finish() & 0xFFFF_FFFF) as usize
 }
 
 #[inline(always)]
@@ -68,13 +60,14 @@ fn met_at<P: Eq>(values: &[P], places: &[u32], place: usize, value: &P) -> Found
     Found::Other
 }
 
-// An equal value, or the place where there is none. There is one of them, unless all places are taken.
+// An equal value, or the place where there is none, looked for from the first one on. There is one of them, unless all
+// places are taken.
 #[inline(always)]
-fn find<P: Eq + Hash>(values: &[P], places: &[u32], value: &P) -> Found
+fn find<P: Eq>(values: &[P], places: &[u32], value: &P, first: u32) -> Found
     ensures { result ≡ Equal → IsTrue (list_any (P.eq value.now) values.now) }
 {
     let last = places.len().wrapping_sub(1);
-    let mut place = first_place(value);
+    let mut place = first as usize;
     for _ in 0..places.len() {
         match met_at(values, places, place & last, value) {
             Found::Other => place = place.wrapping_add(1),
@@ -91,73 +84,90 @@ fn lead(places: &mut [u32], place: usize, number: u32) {
     }
 }
 
-// Leads a place to the value of that number.
-fn lead_to<P: Eq + Hash>(values: &[P], places: &mut [u32], number: usize) {
-    let Some(value) = values.get(number) else {
-        return;
-    };
-    if let Found::Free(place) = find(values, places, value) {
-        if let Ok(number) = u32::try_from(number) {
-            lead(places, place, number);
+// Leads the next free place, from the first one on, to the value of a number.
+fn lead_on(places: &mut [u32], first: u32, number: u32) {
+    let last = places.len().wrapping_sub(1);
+    let mut place = first as usize;
+    for _ in 0..places.len() {
+        let Some(entry) = places.get_mut(place & last) else {
+            return;
+        };
+        if *entry == NO_VALUE {
+            *entry = number;
+            return;
         }
+        place = place.wrapping_add(1);
     }
 }
 
 // Makes four times as many places, and room for half as many values, and leads to all values anew.
 #[inline(never)]
-fn widen<P: Eq + Hash>(values: &mut Vec<P>, places: &mut Vec<u32>) -> Result<(), OutOfMemory>
+fn widen<P>(
+    values: &mut Vec<P>,
+    firsts: &mut Vec<u32>,
+    places: &mut Vec<u32>,
+) -> Result<(), OutOfMemory>
     ensures { values.new.items ≡ values.old.items }
 {
     let amount = places.len().saturating_mul(4).max(LEAST);
     values.reserve(amount / 2)?;
-    places.reserve(amount)?;
-    places.clear();
-    places.resize(amount, NO_VALUE)?;
-    for number in 0..values.len() {
-        lead_to(values.as_slice(), places.as_mut_slice(), number);
+    firsts.reserve(amount / 2)?;
+    let mut wider = Vec::new(*places.allocator());
+    wider.resize(amount, NO_VALUE)?;
+    let mut number: u32 = 0;
+    for first in firsts.as_slice() {
+        lead_on(wider.as_mut_slice(), *first, number);
+        number = number.wrapping_add(1);
     }
+    *places = wider;
     Ok(())
 }
 
 // Puts a value behind the others, unless an equal one is kept.
-fn put<P: Eq + Hash + Copy>(
+fn put<P: Eq + Copy>(
     values: &mut Vec<P>,
+    firsts: &mut Vec<u32>,
     places: &mut Vec<u32>,
     value: P,
+    first: u32,
 ) -> Result<(), OutOfMemory>
     ensures members { (e : P) → Contains values.new.items e → (e ≡ value) ⊎ Contains values.old.items e }
     ensures err { OnErr result (values.new.items ≡ values.old.items) }
 {
-    let Found::Free(place) = find(values.as_slice(), places.as_slice(), &value) else {
+    let Found::Free(place) = find(values.as_slice(), places.as_slice(), &value, first) else {
         return Ok(());
     };
     let number = u32::try_from(values.len()).map_err(|_| OutOfMemory)?;
+    // (one that stands there is of a value for which memory was refused)
+    firsts.truncate(values.len());
+    firsts.push(first)?;
     values.push(value)?;
     lead(places.as_mut_slice(), place, number);
     Ok(())
 }
 
-impl<P: Eq + Hash + Copy> KeptValues<P> {
+impl<P: Eq + Copy> KeptValues<P> {
     /// No value is kept. It takes no memory.
     pub(crate) fn new(alloc: Global) -> Self
         ensures { result.kept ≡ [] }
     {
         KeptValues {
             values: Vec::new(alloc),
+            firsts: Vec::new(alloc),
             places: Vec::new(alloc),
             let_go: 0,
         }
     }
 
-    /// Whether a value that is equal was kept.
+    /// Whether a value that is equal was kept, looked for from the first place on, which equal ones have in common.
     #[inline(always)]
-    pub(crate) fn contains(&self, value: &P) -> bool
+    pub(crate) fn contains(&self, value: &P, first: u32) -> bool
         ensures { IsTrue result → IsTrue (list_any (P.eq value.now) self.now.kept) }
     {
-        if self.values.is_empty() {
+        if self.places.is_empty() {
             return false;
         }
-        match find(self.values.as_slice(), self.places.as_slice(), value) {
+        match find(self.values.as_slice(), self.places.as_slice(), value, first) {
             Found::Equal => true,
             Found::Free(_) | Found::Other => false,
         }
@@ -167,7 +177,7 @@ impl<P: Eq + Hash + Copy> KeptValues<P> {
     ///
     /// # Errors
     /// `OutOfMemory` where a growth was refused: then no more is kept.
-    pub(crate) fn insert(&mut self, value: P) -> Result<(), OutOfMemory>
+    pub(crate) fn insert(&mut self, value: P, first: u32) -> Result<(), OutOfMemory>
         ensures members { (e : P) → Contains self.new.kept e → (e ≡ value) ⊎ Contains self.old.kept e }
         ensures err { OnErr result (self.new.kept ≡ self.old.kept) }
     {
@@ -176,8 +186,14 @@ impl<P: Eq + Hash + Copy> KeptValues<P> {
             return Ok(());
         }
         if self.values.len() >= self.places.len() / 2 {
-            widen(&mut self.values, &mut self.places)?;
+            widen(&mut self.values, &mut self.firsts, &mut self.places)?;
         }
-        put(&mut self.values, &mut self.places, value)
+        put(
+            &mut self.values,
+            &mut self.firsts,
+            &mut self.places,
+            value,
+            first,
+        )
     }
 }

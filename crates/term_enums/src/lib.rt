@@ -35,6 +35,10 @@ impl Variance {
     pub fn xform(self, v: Variance) -> Variance
         ensures { result ≡ xform self v }
     {
+        // (most parts vary as the whole)
+        if let Variance::Covariant = v {
+            return self;
+        }
         match self {
             Variance::Covariant => v,
             Variance::Contravariant => match v {

@@ -8,8 +8,8 @@ use Rattle.part_variances.specs.Handing.{named_place}
 use Rattle.part_variances.proofs.Handed.{named_output, part_unnamed, above, no_signature_inputs}
 use Rattle.part_variances.proofs.handing.named_place.Goals as goal
 
-pub parts_count-requires : goal.parts_count-requires
-parts_count-requires g c =
+pub member_count-requires : goal.member_count-requires
+member_count-requires g c =
     let m = g.I.Interner.meaning c.args.cx.now in
     let s = c.in-Signature.sig in
     let ts = m.tys s.inputs_and_output in
@@ -26,7 +26,7 @@ returns-else-i-eq0 g c =
     let m = g.I.Interner.meaning c.args.cx.now in
     let s = c.in-Signature.sig in
     let ts = m.tys s.inputs_and_output in
-    ap Some c.parts_count.ensures.counts
+    ap Some c.member_count.ensures.counts
     ∙ sym (named_output (s.header).c_variadic (s.header).safety (s.header).abi (front ts) (cons (last ts) nil) c.args.i
     (above c.args.i c.if-i-eq0.false))
     ∙ sym (ap (λ p. named_place (part_tree m p) c.args.i) c.in-Signature.is)

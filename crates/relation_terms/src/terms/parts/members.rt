@@ -194,7 +194,7 @@ fn make_inputs<I: Interner>(
     cx.mk_type_list(&list)
 }
 
-// The list of the same inputs and another output.
+// The list of the same inputs and this output: the same list where it is the one that the list has.
 pub fn with_output<I: Interner>(
     cx: &mut I,
     tys: &Tys<I>,
@@ -207,6 +207,9 @@ pub fn with_output<I: Interner>(
     ensures inputs { IfOk result (λ k. front ((I.meaning cx.new).tys k) ≡ front ((I.meaning cx.old).tys tys.now)) }
     ensures output { IfOk result (λ k. last ((I.meaning cx.new).tys k) ≡ (I.meaning cx.old).ty output) }
 {
+    if last_of(cx, tys) == output {
+        return Ok(*tys);
+    }
     let mut list = inputs_of(cx, tys)?;
     list.push(output)?;
     cx.mk_type_list(&list)

@@ -17,6 +17,19 @@ use Rattle.context_relation.specs.Stepping.{left_not_entered, none_left}
 use Rattle.context_relation.proofs.Stepping.{leaves_itself, opens_seen}
 use Rattle.context_relation.proofs.relation.SolverRelating.step_binders.Goals as goal
 
+pub returns-then-is_behind_last-clause-opened : goal.returns-then-is_behind_last-clause-opened
+returns-then-is_behind_last-clause-opened g c =
+    let r = c.args.self.now in
+    let s = g.Infcx.InferCtxtLike.state r.infcx.now in
+    let tree = g.T.HasTree.tree s.meaning in
+    let a = c.args.a.now in
+    let b = c.args.b.now in
+    let last = c.is_behind_last.ensures c.if-is_behind_last.true in
+    no_more r.structurally_relate_aliases r.infcx.ghost_name r.cache.pairs.kept r.goals.items s r.ambient_variance r.param_env c.requires.lawful.1
+    (grows_itself s c.requires.lawful.0.0) (tree a.value) (tree b.value)
+    c.args.round tree ((s.meaning).bound_vars a.bound_vars) ((s.meaning).bound_vars b.bound_vars) c.requires.asked
+    (omega (arith, last.0, c.requires.round)) (inl last.1)
+
 pub returns-then-round-gt0-clause-opened : goal.returns-then-round-gt0-clause-opened
 returns-then-round-gt0-clause-opened g c =
     let r = c.args.self.now in
@@ -149,6 +162,13 @@ returns-clause-opened g c =
     (grows_itself s c.requires.lawful.0.0) (tree a.value) (tree b.value)
     c.args.round tree ((s.meaning).bound_vars a.bound_vars) ((s.meaning).bound_vars b.bound_vars) c.requires.asked
     last.0 (inl last.1)
+
+pub returns-then-is_behind_last-clause-steps : goal.returns-then-is_behind_last-clause-steps
+returns-then-is_behind_last-clause-steps g c =
+    let r = c.args.self.now in
+    let s = g.Infcx.InferCtxtLike.state r.infcx.now in
+    let last = c.is_behind_last.ensures c.if-is_behind_last.true in
+    none_left (omega (arith, last.0, c.requires.round)) (inl last.1) (leaves_itself (solving_through r.structurally_relate_aliases r.infcx.ghost_name r.cache.pairs.kept r.goals.items s r.ambient_variance r.param_env)) refl
 
 pub returns-then-round-gt0-clause-steps : goal.returns-then-round-gt0-clause-steps
 returns-then-round-gt0-clause-steps g c =

@@ -2,6 +2,10 @@ use Rattle.std.proofs.Common.{◌≡◌, ◌∙◌, ap, subst, inl, inr, Contain
 use Rattle.remembered_pairs.proofs.kept.KeptValues.insert.Goals.{then-len+in_ok-widen, else-len}
 use Rattle.remembered_pairs.proofs.kept.KeptValues.insert.Goals as goal
 
+pub returns-then-self-lt-CACHE_CUTOFF-clause-members : goal.returns-then-self-lt-CACHE_CUTOFF-clause-members
+returns-then-self-lt-CACHE_CUTOFF-clause-members g c = λ e h.
+    inr (subst (λ xs. Contains xs e) (ap (λ v. v.kept) c.self.view_is) h)
+
 pub returns-in_err-widen-clause-members : goal.returns-in_err-widen-clause-members
 returns-in_err-widen-clause-members g c = λ e h.
     inr (subst (λ xs. Contains xs e) (c.widen.ensures ∙ ap (λ v. v.kept) c.self.view_is) h)

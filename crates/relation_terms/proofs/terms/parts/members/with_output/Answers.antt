@@ -14,6 +14,13 @@ mk_type_list-requires g c =
     (known_with_last m.ty ys c.args.output (knows_as (front ts) (list_tree m.ty ys) c.in_ok-list.ensures
     c.requires.tys_known) c.requires.output_known)
 
+-- The list has that output.
+pub returns-then-eq-clause-output : goal.returns-then-eq-clause-output
+returns-then-eq-clause-output g c =
+    sym c.last_of.ensures.means
+    ∙ (g.met.I.Interner.same_ty c.args.cx.now c.last_of.result c.args.output c.last_of.ensures.sure
+    c.requires.output_known).0 (sym c.if-eq.ensures)
+
 pub returns : goal.returns
 returns g c =
     let m = g.I.Interner.meaning c.args.cx.now in
