@@ -117,9 +117,9 @@ module _ {Key Id Name K : Type 0} (F : Tree → Type 0) {r q : State Key Id Name
       outcome = errors_relate (items_in r) r.kept.environment r.ambient r.store q.store r.goals a b h.taints a_in b_in sa sb
           one
 
-      flexible : IsError a ⊎ IsError b → IsFlexible a ⊎ IsFlexible b
-      flexible (inl e) = inl (error_flexible a e)
-      flexible (inr e) = inr (error_flexible b e)
+      flexible : IsError a ⊎ IsError b → IsFlexible a b ⊎ IsFlexible b a
+      flexible (inl e) = inl (error_flexible a b e)
+      flexible (inr e) = inr (error_flexible b a e)
 
       not_first : IsError a ⊎ IsError b → IsFirstOrderPair r.store a b → ⊥
       not_first (inl e) pair = error_not_first a e pair.left

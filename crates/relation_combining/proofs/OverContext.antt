@@ -22,7 +22,9 @@ use Rattle.term_enums.specs.declared.StructurallyRelateAliases.TheVariants.{No}
 use Rattle.relation_semantics.specs.Settings.{Settings}
 use Rattle.relation_semantics.specs.Relation.{Items, Interpretation, Rel, at, sort_of, IsError, same as same_rel}
 use Rattle.relation_semantics.specs.Agreeing.{Agree}
-use Rattle.relation_semantics.proofs.Agreeing.{agree_read, agree_root, agree_root_back, number_sort}
+use Rattle.relation_semantics.proofs.Agreeing.{agree_read, agree_root, agree_root_back}
+use Rattle.relation_semantics.proofs.Standing.{itself_stands}
+use Rattle.relation_semantics.proofs.StoreCalls.{number_stands}
 use Rattle.relation_semantics.specs.Stores.{Store, IsSound, Satisfies, IsMade, InContext, MayStandFor, weight}
 use Rattle.relation_semantics.specs.Goals.{Goal, GoalInContext, MakesOneTree}
 use Rattle.relation_semantics.specs.Steps.{Equates, InstantiatesNumber, StaysFull}
@@ -168,7 +170,7 @@ module _ {Key Id Name : Type 0} (r : State Key Id Name) where
       (roots_universe was now k o i l sound still equates) (roots_full was now k o i l sound still equates)
       (roots_built was now k o i l sound still equates a b p)
       (inl answer) (subst (λ z. IsTrue (known z)) (sym (answer ∙ p)) refl)
-      (λ set c. agree_root set c r.ambient k i a b p (ap sort_of q))
+      (λ set c. agree_root set c r.ambient k i a b p (subst (MayStandFor k) (sym q) (itself_stands k l)))
 
   -- A root of a number variable was bound to the other side, a type of its kind.
   pub number_step : {X : Type 0} (F : Tree → Type 0) (m n : Meaning Key Id Name) (was now : Store) (L K : Type 0) (k : VarKind) (i : ℕ) (a b : Tree) (tree : X → Tree) (t : X) → n ≡ m →
@@ -184,7 +186,7 @@ module _ {Key Id Name : Type 0} (r : State Key Id Name) where
       (number_universe was now k i b h sound) (number_full was now k i b h sound)
       (λ j ha hb all. builds_number j b h (subst (IsBuiltOf j) p ha) hb all)
       (inr answer) (subst (λ z. IsTrue (known z)) (sym answer) sure)
-      (λ set c. agree_root set c r.ambient k i a b p (number_sort k b h.fits))
+      (λ set c. agree_root set c r.ambient k i a b p (number_stands k b h.fits))
 
   pub number_step_back : {X : Type 0} (F : Tree → Type 0) (m n : Meaning Key Id Name) (was now : Store) (L K : Type 0) (k : VarKind) (i : ℕ) (a b : Tree) (tree : X → Tree) (t : X) → n ≡ m →
       IsSound was → (L → K) →
@@ -203,7 +205,7 @@ module _ {Key Id Name : Type 0} (r : State Key Id Name) where
       (number_universe was now k i a h sound) (number_full was now k i a h sound)
       (λ j ha hb all. builds_number j a h (subst (IsBuiltOf j) p hb) ha all)
       (inl answer) (subst (λ z. IsTrue (known z)) (sym answer) sure)
-      (λ set c. agree_root_back set c r.ambient k i a b p (number_sort k a h.fits))
+      (λ set c. agree_root_back set c r.ambient k i a b p (number_stands k a h.fits))
 
   -- Or the other side is a type that may not stand for it.
   module _ {X : Type 0} (F : Tree → Type 0) (m n : Meaning Key Id Name) (was now : Store) (L K : Type 0)

@@ -275,7 +275,7 @@ module _ {Key Id Name : Type 0} (r0 : State Key Id Name) (L K : Type 0) (lawful 
         keeps = (both.0).keeps;
       };
       errors = λ i j c st f h g o. of_entries (read_later now st h root u root_reads) (itself refl) (l.errors i j c st f g o);
-      agrees = λ set c z. agree_root set c v k target root t refl (stands_sort k t stands);
+      agrees = λ set c z. agree_root set c v k target root t refl stands;
     }
 
     right_leads : (w : Variance) → Lifts Key Id Name now w v t u → Leads r q [] t root w t u
@@ -288,7 +288,7 @@ module _ {Key Id Name : Type 0} (r0 : State Key Id Name) (L K : Type 0) (lawful 
         keeps = (both.1).keeps;
       };
       errors = λ i j c st f h g o. of_entries (itself refl) (read_later now st h root u root_reads) (l.errors i j c st f g o);
-      agrees = λ set c z. agree_root_back set c v k target t root refl (stands_sort k t stands);
+      agrees = λ set c z. agree_root_back set c v k target t root refl stands;
     }
 
     exactly : IsFirstOrder t → IsFirstOrderStore was → ExactStep was now root t u t × ExactStep was now t root t u
@@ -529,7 +529,7 @@ module _ {Key Id Name : Type 0} (r0 : State Key Id Name) (L K : Type 0) (lawful 
               (subst (λ z. alias_at r0.ambient z t ≡ Some pred) is e));
           answer = subst (MayAnswer solver_manner p r0.ambient lone) (sym answer) (may_itself solver_manner p r0.ambient lone);
           known = subst (λ z. IsTrue (known z)) (sym answer) refl;
-          agrees = λ o. agree_root r0.kept.settings (items_of c.meaning) r0.ambient type_var target lone t refl root_sort;
+          agrees = λ o. agree_root r0.kept.settings (items_of c.meaning) r0.ambient type_var target lone t refl stands;
         };
         exact = λ o same pair. absurd (not_first pair.right);
         full = λ ha hb. full_could instantiates;
@@ -551,7 +551,7 @@ module _ {Key Id Name : Type 0} (r0 : State Key Id Name) (L K : Type 0) (lawful 
               (subst (λ z. alias_at r0.ambient t z ≡ Some pred) is e));
           answer = subst (MayAnswer solver_manner p r0.ambient t) (sym answer) (may_itself solver_manner p r0.ambient t);
           known = subst (λ z. IsTrue (known z)) (sym answer) t_known;
-          agrees = λ o. agree_root_back r0.kept.settings (items_of c.meaning) r0.ambient type_var target t lone refl root_sort;
+          agrees = λ o. agree_root_back r0.kept.settings (items_of c.meaning) r0.ambient type_var target t lone refl stands;
         };
         exact = λ o same pair. absurd (not_first pair.left);
         full = λ ha hb. full_could instantiates;

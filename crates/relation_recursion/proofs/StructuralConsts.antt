@@ -418,9 +418,9 @@ module _ {Key Id Name : Type 0} {X : Type 0} (M : Manners) (r : State Key Id Nam
         not_plain (inl e) bare = error_not_plain a e bare.left_plain
         not_plain (inr e) bare = error_not_plain b e bare.right_plain
 
-        either : IsError a ⊎ IsError b → IsFlexible a ⊎ IsFlexible b
-        either (inl e) = inl (error_flexible a e)
-        either (inr e) = inr (error_flexible b e)
+        either : IsError a ⊎ IsError b → IsFlexible a b ⊎ IsFlexible b a
+        either (inl e) = inl (error_flexible a b e)
+        either (inr e) = inr (error_flexible b a e)
 
         not_first : IsError a ⊎ IsError b → IsFirstOrderPair r.store a b → ⊥
         not_first (inl e) pair = error_not_first a e pair.left

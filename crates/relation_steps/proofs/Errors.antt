@@ -6,6 +6,6 @@ use Rattle.relation_semantics.specs.Relation.{IsError}
 use Rattle.relation_semantics.specs.Agreeing.{IsFlexible}
 
 -- An error agrees with all of its sort.
-pub error_flexible : (t : Tree) → IsError t → IsFlexible t
-error_flexible (leaf (atom x)) h = inl h
-error_flexible t h = absurd h
+pub error_flexible : (t u : Tree) → IsError t → IsFlexible t u
+error_flexible (leaf (atom x)) u h = inl h
+error_flexible t u h = absurd h
