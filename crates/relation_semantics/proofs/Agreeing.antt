@@ -429,7 +429,7 @@ read_comes st g t u (by_class k n m e c r) = inr (k, n, e, go (read_comes st g (
   where
     go : ComesTo (leaf (variable k m)) u → MayStandFor k u
     go (inl e) = subst (MayStandFor k) e (itself_stands k m)
-    go (inr z) = let same : z.0 ≡ k = let p = z.2.0 in cc in subst (λ j. MayStandFor j u) same z.2.1
+    go (inr z) = let p = z.2.0 in let same : z.0 ≡ k = cc p in subst (λ j. MayStandFor j u) same z.2.1
 read_comes st g t u (by_binding {u = x} k n e b r) = inr (k, n, e, go (read_comes st g x u r))
   where
     stands : MayStandFor k x
