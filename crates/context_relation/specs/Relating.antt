@@ -125,11 +125,11 @@ module _ {S Key Id Name A : Type 0} (state : S → Context Key Id Name) (old new
   AnswersError g v a b result = IfUnrelated result (λ e. ErrorOf (state new).meaning
       (solver_settings g (state new).setup) (items_of (state new).meaning) (state new).store v e (term a) (term b))
 
-  -- What clashes is refused: the two agree, where they are related.
+  -- What clashes is refused: the two agree, by what they came to before, where they are related.
   abbrev pub RelatesAgreeing : {X : Type 0} → StructurallyRelateAliases → Variance → A → A →
       Result X (RelateFault Key Id Name) → Type 0
-  RelatesAgreeing g v a b result = IfOk result (λ goals. Agree (solver_settings g (state old).setup)
-      (items_of (state old).meaning) (at v) (term a) (term b))
+  RelatesAgreeing g v a b result = IfOk result (λ goals. AgreeIn (solver_settings g (state old).setup)
+      (items_of (state old).meaning) (state old).store (at v) (term a) (term b))
 
   -- Exact, of first-order terms in a first-order record at invariance: just the solutions that unify them stay, up to
   -- erasure, the record stays first-order, and in one universe what was in one, with no more variables; and no goal is

@@ -37,13 +37,13 @@ no_bound_goal set ks ls a b (inl (l, inr o)) = o
 no_bound_goal set ks ls a b (inr (l, inl o)) = o
 no_bound_goal set ks ls a b (inr (l, inr o)) = o
 
-agree_open : (set : Settings) (c : Items) (v : Variance) (a b : Tree) → IsLeftOpen set a b → sort_of a ≡ sort_of b →
+pub agree_open : (set : Settings) (c : Items) (v : Variance) (a b : Tree) → IsLeftOpen set a b → sort_of a ≡ sort_of b →
     Agree set c (at v) a b
 agree_open set c v (node h xs) (node k ys) l s = inl (inr (l, s))
 agree_open set c v (bind ks a) (bind ls b) l s = absurd (no_bound_goal set ks ls a b l)
 agree_open set c v a b l s = inl (inr (l, s))
 
-deferred_open : (set : Settings) (a b : Tree) → IsDeferred set a b → IsLeftOpen set a b
+pub deferred_open : (set : Settings) (a b : Tree) → IsDeferred set a b → IsLeftOpen set a b
 deferred_open set a b (inl l) = inl l
 deferred_open set a b (inr (l, inl o)) = inr (l, inl (beside_is_opaque a b o))
 deferred_open set a b (inr (l, inr o)) = inr (l, inr (beside_is_opaque b a o))
@@ -404,11 +404,11 @@ agree_before set c v a b u w p q g = right q (left p g)
   where
     left : ComesTo a u → Agree set c (at v) u w → Agree set c (at v) a w
     left (inl e) f = subst (λ z. Agree set c (at v) z w) (sym e) f
-    left (inr z) f = subst (λ y. Agree set c (at v) y w) (sym z.2.0) (stands_agree set c v z.0 z.1 u w z.2.1 f)
+    left (inr z) f = subst (λ y. Agree set c (at v) y w) (sym z.2) (stands_agree set c v z.0 z.1 u w z.3 f)
 
     right : ComesTo b w → Agree set c (at v) a w → Agree set c (at v) a b
     right (inl e) f = subst (Agree set c (at v) a) (sym e) f
-    right (inr z) f = subst (Agree set c (at v) a) (sym z.2.0) (stands_agree_back set c v z.0 z.1 a w z.2.1 f)
+    right (inr z) f = subst (Agree set c (at v) a) (sym z.2) (stands_agree_back set c v z.0 z.1 a w z.3 f)
 
 -- What is read of a variable may stand for it.
 stands_through : (k j : VarKind) (i : ℕ) (u : Tree) → MayStandFor k (leaf (variable j i)) → MayStandFor j u → MayStandFor k u
@@ -429,7 +429,7 @@ read_comes st g t u (by_class k n m e c r) = inr (k, n, e, go (read_comes st g (
   where
     go : ComesTo (leaf (variable k m)) u → MayStandFor k u
     go (inl e) = subst (MayStandFor k) e (itself_stands k m)
-    go (inr z) = let same : z.0 ≡ k = let p = z.2.0 in cc in subst (λ j. MayStandFor j u) same z.2.1
+    go (inr z) = let p = z.2 in let same : z.0 ≡ k = cc p in subst (λ j. MayStandFor j u) same z.3
 read_comes st g t u (by_binding {u = x} k n e b r) = inr (k, n, e, go (read_comes st g x u r))
   where
     stands : MayStandFor k x
@@ -437,7 +437,7 @@ read_comes st g t u (by_binding {u = x} k n e b r) = inr (k, n, e, go (read_come
 
     go : ComesTo x u → MayStandFor k u
     go (inl e) = subst (MayStandFor k) e stands
-    go (inr z) = stands_through k z.0 z.1 u (subst (MayStandFor k) z.2.0 stands) z.2.1
+    go (inr z) = stands_through k z.0 z.1 u (subst (MayStandFor k) z.2 stands) z.3
 
 pub agree_read : (set : Settings) (c : Items) (st : Store) → IsSound st → (v : Variance) (a b u w : Tree) → IsReadAs st a u →
     IsReadAs st b w → Agree set c (at v) u w → Agree set c (at v) a b
