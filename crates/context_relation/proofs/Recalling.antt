@@ -26,7 +26,8 @@ use Rattle.relation_semantics.specs.Contexts.{Context}
 use Rattle.relation_semantics.specs.Goals.{goal_of}
 use Rattle.relation_semantics.specs.Parts.{IsFormed}
 use Rattle.relation_semantics.specs.Steps.{Taints}
-use Rattle.relation_semantics.specs.Lawful.{State, Pair, Manners, Stepped, Shown, HasRelated, RemembersRelated, RemembersAtMost}
+use Rattle.relation_semantics.specs.Relation.{at}
+use Rattle.relation_semantics.specs.Lawful.{State, Pair, Manners, Stepped, Shown, HasRelated, RemembersRelated, RemembersAtMost, AgreesIn, MeansPair}
 use Rattle.relation_semantics.proofs.Answering.{same_environment, same_settings}
 use Rattle.relation_semantics.proofs.Passing.{shown_by}
 use Rattle.relation_semantics.proofs.Remembering.{hit_is_step, related_as, were_related_more}

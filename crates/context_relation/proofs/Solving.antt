@@ -45,10 +45,11 @@ use Rattle.relation_semantics.specs.Outcomes.{Outcome}
 use Rattle.relation_semantics.specs.Measures.{Goes}
 use Rattle.relation_semantics.specs.Parts.{IsFormedConst}
 use Rattle.relation_semantics.specs.Constraints.{constraint_at, constraint_of, asked_constraints}
-use Rattle.relation_semantics.specs.Lawful.{Passes, Related, Stepped, items_of, Kept, Pair, State, WereRelated}
+use Rattle.relation_semantics.specs.Lawful.{Passes, Related, Stepped, items_of, Kept, Pair, State, WereRelated, MayBegin}
 use Rattle.relation_semantics.proofs.Standing.{term_sort_of}
-use Rattle.relation_semantics.proofs.Agreeing.{agree_regions}
-use Rattle.relation_semantics.specs.Agreeing.{Agree}
+use Rattle.relation_semantics.proofs.AgreeingBefore.{regions_agreed}
+use Rattle.relation_semantics.proofs.Beginning.{begins_by, begins_there}
+use Rattle.relation_semantics.specs.Agreeing.{AgreeIn}
 use Rattle.relation_semantics.specs.Lawful.{Verdict, WithMeaning, RegisteredIn, RecordsOf}
 use Rattle.relation_semantics.proofs.Going.{goes_nowhere, goes_within, later_itself}
 use Rattle.relation_semantics.proofs.Keeping.{one_itself, one_same, unified_itself, unified_same}

@@ -39,7 +39,8 @@ use Rattle.relation_semantics.proofs.Growing.{constraint_sound, constraint_is_la
 use Rattle.relation_semantics.proofs.Growing.{constraint_holds, constraint_keeps}
 use Rattle.relation_semantics.proofs.Passing.{passes_nowhere}
 use Rattle.relation_semantics.proofs.Answering.{may_itself}
-use Rattle.relation_semantics.proofs.Agreeing.{agree_regions}
+use Rattle.relation_semantics.proofs.AgreeingBefore.{regions_agreed}
+use Rattle.relation_semantics.proofs.Beginning.{begins_by}
 use Rattle.relation_semantics.proofs.Erased.{erase_region}
 use Rattle.relation_semantics.proofs.OneUniverse.{keeps_pair, standing_keeps, binds_itself}
 use Rattle.variable_tables.proofs.Grows.{known_of_term}

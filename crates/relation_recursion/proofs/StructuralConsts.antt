@@ -45,7 +45,6 @@ use Rattle.relation_steps.proofs.Fronts.{fronted_agree, fronted_keeps}
 use Rattle.relation_semantics.proofs.Keeping.{one_so_far, unified_inside}
 use Rattle.relation_semantics.proofs.AskingSince.{const_no_more, no_more_same}
 use Rattle.relation_semantics.proofs.AgreeingBefore.{same_agreed}
-use Rattle.relation_semantics.specs.Agreeing.{IsFlexible}
 use Rattle.relation_semantics.proofs.AgreeingForms.{const_agrees}
 use Rattle.relation_semantics.proofs.Full.{full_itself, const_parts_plain}
 use Rattle.relation_recursion.proofs.Unifying.{first_order_const_parts, const_looked_at, consts_unify, answered_as, refused_as}
