@@ -1,5 +1,5 @@
 -- What agrees by an earlier record: reading by a later one keeps it, and so does opening binders.
-use Rattle.std.proofs.Common.{◌≡◌, ◌⊎◌, ℕ, zero, suc, ◌<◌, ◌≤◌, refl, sym, ap, ◌∙◌, inl, inr, subst, subst₂, arith, List}
+use Rattle.std.proofs.Common.{◌≡◌, ◌⊎◌, ℕ, zero, suc, ◌+◌, ◌<◌, ◌≤◌, refl, sym, ap, ◌∙◌, inl, inr, subst, subst₂, arith, List}
 use Rattle.std.proofs.Common.{[], ◌∷◌, map}
 use Rattle.term_enums.specs.declared.Variance.{Variance}
 use Rattle.term_enums.specs.declared.Variance.TheVariants.{Bivariant}
@@ -137,8 +137,9 @@ pub parts_agreed : (set : Settings) (c : Items) (st : Store) (h : Head) (v : Var
 parts_agreed set c st h v xs ys l m e f = agree_parts set c h 0 v (apply (resolved st) xs) (apply (resolved st) ys)
     (left ∙ e ∙ sym right)
     (λ j b. let n : j < count xs = omega (arith, b, left) in
-    subst₂ (Agree set c (at (part_at c h j v))) (sym (nth_applied (resolved st) xs j n))
-    (sym (nth_applied (resolved st) ys j (omega (arith, n, e)))) (f j n))
+    subst₂ (Agree set c (at (part_at c h (0 + j) v))) (sym (nth_applied (resolved st) xs j n))
+    (sym (nth_applied (resolved st) ys j (omega (arith, n, e))))
+    (subst (λ i. AgreeIn set c st (at (part_at c h i v)) (nth j xs) (nth j ys)) (omega arith) (f j n)))
   where
     left : count (apply (resolved st) xs) ≡ count xs
     left = count_applied (resolved st) xs l
@@ -181,11 +182,11 @@ module _ (before after : Store) (g : IsSound before) (h : IsSound after) (l : Is
   before_end : (f n m : ℕ) (k : VarKind) → n < f → ((p : ℕ) → entry_of after k m ≡ same_as p → ⊥) → AreEquated after k n m →
       Ends k n m
   before_end zero n m k b o c = absurd (omega (arith, b))
-  before_end (suc f) n m k b o c = go (entry_of before k n) refl
+  before_end (suc f) n m k b o c = go (λ p l d. before_end f p m k l o d) (entry_of before k n) refl
     where
-      go : (x : Entry) → entry_of before k n ≡ x → Ends k n m
-      go unbound e = inl (n, resolved_free before k n (ap (entry_term k) e))
-      go (same_as p) e = on (before_end f p m k (let z = g.falls k n p e in omega (arith, b, z)) o further)
+      go : ((p : ℕ) → p < f → AreEquated after k p m → Ends k p m) → (x : Entry) → entry_of before k n ≡ x → Ends k n m
+      go rest unbound e = inl (n, resolved_free before k n (ap (entry_term k) e))
+      go rest (same_as p) e = on (rest p (let z = g.falls k n p e in omega (arith, b, z)) further)
         where
           moved : apply (resolved before) (leaf (variable k n)) ≡ apply (resolved before) (leaf (variable k p))
           moved = resolved_meets before g k n (leaf (variable k p)) (ap (entry_term k) e)
@@ -199,7 +200,7 @@ module _ (before after : Store) (g : IsSound before) (h : IsSound after) (l : Is
           on : Ends k p m → Ends k n m
           on (inl w) = inl (w.0, moved ∙ w.1)
           on (inr t) = inr (t.0, t.1, moved ∙ t.2)
-      go (bound_to t) e =
+      go rest (bound_to t) e =
           let b = binding_later before after l k n t e in
           let same : n ≡ m = one_end after k n m (λ p d. cc (b, d)) o c in
           inr (t, ap (entry_of before k) (sym same) ∙ e, resolved_meets before g k n t (ap (entry_term k) e))
@@ -220,9 +221,9 @@ module _ (before after : Store) (g : IsSound before) (h : IsSound after) (l : Is
       go (inl e) = subst (MayStandFor k) e (itself_stands k n)
       go (inr z) = let p = z.2 in let same : z.0 ≡ k = cc p in subst (λ j. MayStandFor j x) same z.3
 
-  came_all : (t x : Tree) → IsReadAs after t x →
+  came_itself : (t x : Tree) → t ≡ x →
       ((k : VarKind) (n : ℕ) → x ≡ leaf (variable k n) → entry_of after k n ≡ unbound) → CameAll t x
-  came_all t x (itself e) free = record {
+  came_itself t x e free = record {
     term = inl (ap (apply (resolved before)) e);
     of_class = λ k n m is c.
         let u = free k n (sym e ∙ is) in
@@ -235,7 +236,10 @@ module _ (before after : Store) (g : IsSound before) (h : IsSound after) (l : Is
           CameTo (leaf (variable k m)) x
       end k n m u s (inl w) = inr (k, w.0, w.1, s)
       end k n m u s (inr z) = absurd (let b = binding_later before after l k n z.0 z.1 in cc (u, b))
-  came_all t x (by_class j i m e c r) free = record {
+
+  came_by_class : (t x : Tree) (j : VarKind) (i m : ℕ) → t ≡ leaf (variable j i) → AreEquated after j i m →
+      CameAll (leaf (variable j m)) x → CameAll t x
+  came_by_class t x j i m e c rest = record {
     term = subst (λ z. CameTo z x) (sym e) (rest.of_class j m i refl c);
     of_class = λ k n p is d.
         let a : j ≡ k = cc (e, is) in
@@ -243,10 +247,10 @@ module _ (before after : Store) (g : IsSound before) (h : IsSound after) (l : Is
         rest.of_class k m p (ap (λ z. leaf (variable z m)) a) (class_through after k p n m d
         (subst (λ z. AreEquated after z n m) a (subst (λ z. AreEquated after j z m) b c)));
   }
-    where
-      rest : CameAll (leaf (variable j m)) x
-      rest = came_all (leaf (variable j m)) x r free
-  came_all t x (by_binding {u = u} j i e b r) free = record {
+
+  came_by_binding : (t x u : Tree) (j : VarKind) (i : ℕ) → t ≡ leaf (variable j i) → entry_of after j i ≡ bound_to u →
+      IsReadAs after u x → CameAll u x → CameAll t x
+  came_by_binding t x u j i e b r rest = record {
     term = subst (λ z. CameTo z x) (sym e) (bound_end j i i b (class_itself after j i)
         (variable_stands j i x (by_binding j i refl b r)));
     of_class = λ k n p is d.
@@ -257,9 +261,6 @@ module _ (before after : Store) (g : IsSound before) (h : IsSound after) (l : Is
         bound_end k n p bound_there d (variable_stands k n x (by_binding k n refl bound_there r));
   }
     where
-      rest : CameAll u x
-      rest = came_all u x r free
-
       on : (s : Tree) → apply (resolved before) s ≡ apply (resolved before) u → CameTo u x → CameTo s x
       on s p (inl q) = inl (p ∙ q)
       on s p (inr z) = inr (z.0, z.1, p ∙ z.2, z.3)
@@ -274,6 +275,12 @@ module _ (before after : Store) (g : IsSound before) (h : IsSound after) (l : Is
               let d = binding_later before after l k n z.0 z.1 in
               let same : z.0 ≡ u = cc (q, d) in
               on (leaf (variable k m)) (z.2 ∙ ap (apply (resolved before)) same) rest.term
+
+  came_all : (t x : Tree) → IsReadAs after t x →
+      ((k : VarKind) (n : ℕ) → x ≡ leaf (variable k n) → entry_of after k n ≡ unbound) → CameAll t x
+  came_all t x (itself e) free = came_itself t x e free
+  came_all t x (by_class j i m e c r) free = came_by_class t x j i m e c (came_all (leaf (variable j m)) x r free)
+  came_all t x (by_binding {u = u} j i e b r) free = came_by_binding t x u j i e b r (came_all u x r free)
 
   module _ (set : Settings) (c : Items) (v : Variance) where
     -- So what agrees by the earlier record as the later one reads it, agrees as it stands.

@@ -154,10 +154,10 @@ module _ {Key Id Name : Type 0} where
       a b x y l.steps).0 (outcome_seen g (at v) p.store f.added x y o)
 
   -- So the pair that it was asked about agrees if the one that is left does.
-  pub led_agrees : {n : ℕ} {r q p : State Key Id Name} (g : Passes n r q) (a b x y : Tree) (v : Variance) →
-      Leads r q g.added a b v x y → ((st : Store) → BeganWith q st → AgreesIn q st (at v) x y × BeganWith p st) →
+  pub led_agrees : {n : ℕ} {r q : State Key Id Name} (g : Passes n r q) (p : State Key Id Name) (a b x y : Tree)
+      (v : Variance) → Leads r q g.added a b v x y → ((st : Store) → BeganWith q st → AgreesIn q st (at v) x y × BeganWith p st) →
       (st : Store) → BeganWith r st → AgreesIn r st (at r.ambient) a b × BeganWith p st
-  led_agrees g a b x y v l h st began =
+  led_agrees g p a b x y v l h st began =
       let led = l.agrees st began in
       let z = h st led.1 in
       (led.0 (agrees_then g st (at v) x y z.0), z.1)
@@ -352,7 +352,7 @@ module _ {Key Id Name : Type 0} where
               (l.answers (tree t)) w s sat all ((v.answer).related w s sat all);
         };
         known = v.known;
-        agrees = λ k. led_agrees g a b x y r.ambient l.leads (v.agrees (manner_then M (λ z. z.relates_agreeing) g k));
+        agrees = λ k. led_agrees g p a b x y r.ambient l.leads (v.agrees (manner_then M (λ z. z.relates_agreeing) g k));
       }
       verdict (Err e) v = led_refuses g f.passes sound a b x y r.ambient l.leads built l.built e
           (met_refuses q p r.ambient x y (subst (λ k. IsDeferred k x y → ⊥) (sym (same_settings (f.passes).kept)) l.not_left) e v)
@@ -382,7 +382,7 @@ module _ {Key Id Name : Type 0} where
               sat all (relates_by (xform r.ambient v) x y f.passes (f.verdict).outcome w s sat all);
         });
         known = subst (λ t. IsTrue (known t)) (sym e) led.answer_known;
-        agrees = λ k. led_agrees g a b x y (xform r.ambient v) led.leads
+        agrees = λ k. led_agrees g p a b x y (xform r.ambient v) led.leads
             ((f.verdict).agrees (manner_then M (λ z. z.relates_agreeing) g k));
       };
       exact = exact_led {X = Y} (M r.kept.settings) r.store q.store p.store a b x y r.ambient (xform r.ambient v)
@@ -884,7 +884,7 @@ module _ {Key Id Name : Type 0} where
       let both = passes_then g f.passes (small M a b k l x y u v g led exactly built) in
       subst₂ (AgreesIn p st (at p.ambient)) (sym c) (sym d)
       (subst (λ w. AgreesIn p st (at w) k l) (sym both.ambient) (agrees_now both st (at r.ambient) k l
-      (led_agrees g k l x y (xform r.ambient v) led.read_leads
+      (led_agrees g p k l x y (xform r.ambient v) led.read_leads
       ((f.verdict).agrees (manner_then M (λ z. z.relates_agreeing) g promised)) st began).0))
 
 -- A step that leaves the pair as it is.
