@@ -23,11 +23,10 @@ error_came st t h = absurd h
 pub error_agreed : (set : Settings) (c : Items) (st : Store) → IsSound st → (v : Variance) (a b : Tree) →
     IsError a ⊎ IsError b → sort_of a ≡ sort_of b → AgreeIn set c st (at v) a b
 error_agreed set c st g v a b one s = agree_flexible set c v (apply (resolved st) a) (apply (resolved st) b)
-    (either one, came_sort st g a ∙ s ∙ sym (came_sort st g b))
+    (either (apply (resolved st) a) (apply (resolved st) b) (error_came st a) (error_came st b) one,
+    came_sort st g a ∙ s ∙ sym (came_sort st g b))
   where
-    abbrev Came : Tree → Tree
-    Came t = apply (resolved st) t
-
-    either : IsError a ⊎ IsError b → IsFlexible (Came a) (Came b) ⊎ IsFlexible (Came b) (Came a)
-    either (inl e) = inl (error_flexible (Came a) (Came b) (error_came st a e))
-    either (inr e) = inr (error_flexible (Came b) (Came a) (error_came st b e))
+    either : (x y : Tree) → (IsError a → IsError x) → (IsError b → IsError y) → IsError a ⊎ IsError b →
+        IsFlexible x y ⊎ IsFlexible y x
+    either x y f h (inl e) = inl (error_flexible x y (f e))
+    either x y f h (inr e) = inr (error_flexible y x (h e))
