@@ -264,13 +264,13 @@ module _ {Key Id Name T : Type 0} (aliases : StructurallyRelateAliases) (j : ℕ
           right_taken = all_taken v u k.right_taken.1.1;
         };
         errors = λ m set i st f later sound o.
-            bodies_error m set i st v f ks ls t u t u (unused_stand_ins ks t w.0) (unused_stand_ins ls u w.1) o;
+            bodies_error m set i st v f ks ls t u t u {now = c.store} (unused_stand_ins ks t w.0) (unused_stand_ins ls u w.1) o;
         agrees = λ st began. (
           λ z. bodies_agree there.kept.settings (items_of c.meaning) v st began.sound began.later ks ls t u t u
               (unused_stand_ins ks t w.0) (unused_stand_ins ls u w.1) k.left_taken.1.0 k.right_taken.1.0 z,
           began,
         );
-        built = bodies_built c.store ks ls t u t u (unused_stand_ins ks t w.0) (unused_stand_ins ls u w.1);
+        built = bodies_built c.store ks ls t u t u {now = c.store} (unused_stand_ins ks t w.0) (unused_stand_ins ls u w.1);
         same_budget = refl;
         smaller = bodies_smaller c.store ks ls t u;
       })) (built_itself c.store (bind ks t) (bind ls u))

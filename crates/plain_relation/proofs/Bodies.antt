@@ -59,13 +59,15 @@ module _ {Key Id Name : Type 0} (m : Meaning Key Id Name) (v : Variance) (cs : L
           right_taken = (k.right_taken.0, k.right_taken.1.1);
         };
         errors = λ n set i st e later s o.
-            bodies_error n set i st v e ks ls t u t u (unused_stand_ins ks t w.0) (unused_stand_ins ls u w.1) o;
+            bodies_error n set i st v e ks ls t u t u {now = plain_store m cs} (unused_stand_ins ks t w.0)
+            (unused_stand_ins ls u w.1) o;
         agrees = λ st began. (
           λ z. bodies_agree plain_settings (items_of m) v st began.sound began.later ks ls t u t u
               (unused_stand_ins ks t w.0) (unused_stand_ins ls u w.1) k.left_taken.1.0 k.right_taken.1.0 z,
           began,
         );
-        built = bodies_built (plain_store m cs) ks ls t u t u (unused_stand_ins ks t w.0) (unused_stand_ins ls u w.1);
+        built = bodies_built (plain_store m cs) ks ls t u t u {now = plain_store m cs} (unused_stand_ins ks t w.0)
+            (unused_stand_ins ls u w.1);
         same_budget = refl;
         smaller = bodies_smaller (plain_store m cs) ks ls t u;
       }
