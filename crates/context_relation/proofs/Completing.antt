@@ -15,7 +15,7 @@ use Rattle.relation_folds.specs.declared.error.RelateFault.TheVariants.{Memory, 
 use Rattle.term_enums.specs.declared.StructurallyRelateAliases.{StructurallyRelateAliases}
 use Rattle.relation_semantics.specs.Contexts.{Context}
 use Rattle.relation_semantics.specs.Lawful.{items_of, declared_by}
-use Rattle.relation_semantics.specs.Stores.{IsSound, IsIntegerTerm, IsFloatTerm, Constraint, outlives_constraint, equal_constraint, ConstraintHolds}
+use Rattle.relation_semantics.specs.Stores.{IsSound, resolved, IsIntegerTerm, IsFloatTerm, Constraint, outlives_constraint, equal_constraint, ConstraintHolds}
 use Rattle.relation_terms.specs.Heads.{Sort, region_sort, region_kind, type_kind, const_kind, bound_kind, int_var, float_var, region_var, leaf_sort, Atom, atom_sort, int_type, uint_type, float_type, early_region, type_param, const_param, Head, fn_ptr, unsafe_binder, alias, alias_term, unevaluated, value_type, Leaf, variable, bound, placeholder, atom, unknown, one, term_of}
 use Rattle.relation_terms.specs.Trees.{Tree, leaf, node, bind, nil, cons, Leaves, Assign}
 use Rattle.relation_terms.specs.Erasure.{erase, erase_leaf, erase_atom, kept_parts}
@@ -27,6 +27,7 @@ use Rattle.relation_semantics.specs.Agreeing.{IsFlexible, AreFlexible, IsLeftAsi
 use Rattle.relation_semantics.specs.Asking.{HaveAlias, IsPlainHead, IsPlainTerm, HasNoAlias, ArePlain, without_aliases, without_binders, Wanted, a_constraint, a_goal, AsksFor}
 use Rattle.relation_semantics.proofs.Agreeing.{agree_anything, agree_same, agree_left, agree_sorts, open_alias, region_flexible}
 use Rattle.relation_semantics.proofs.Asking.{no_alias_term}
+use Rattle.relation_semantics.proofs.Trees.{apply_ground}
 use Rattle.relation_semantics.proofs.Erased.{erase_region, erase_plain, no_error_atom, keeps_parts}
 use Rattle.relation_recursion.proofs.Unifying.{erased_sort}
 use Rattle.context_relation.specs.Completing.{AreRelatedAsAsked, AreNeverRelated, ErrorsDisagree, ErrorsAreUnrelated, AgreeingAreRelated, Complete, AskedHolds, IsSoWanted}
@@ -284,7 +285,10 @@ module _ {S Key Id Name A : Type 0} (state : S → Context Key Id Name) (old new
       Complete state old new over tree g e v a b result
   completes before g e v a b (Ok goals) needs agrees errors s x y p = agreeing_are_related (solver_settings g (state old).setup)
       (items_of (state old).meaning) (((state old).meaning).param_env e) v s (term_in (state old) over tree a)
-      (term_in (state old) over tree b) x y p agrees
+      (term_in (state old) over tree b) x y p (subst₂ (Agree (solver_settings g (state old).setup)
+      (items_of (state old).meaning) (at v))
+      (apply_ground (resolved (state old).store) (term_in (state old) over tree a) x.1)
+      (apply_ground (resolved (state old).store) (term_in (state old) over tree b) y.1) agrees)
   completes before g e v a b (Err (Unrelated z)) needs agrees errors s x y p = unrelated_before g
       (((state old).meaning).param_env e) v (term_in (state old) over tree a) (term_in (state old) over tree b) z p x.1 y.1
       errors

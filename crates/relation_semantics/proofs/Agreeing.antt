@@ -37,13 +37,13 @@ no_bound_goal set ks ls a b (inl (l, inr o)) = o
 no_bound_goal set ks ls a b (inr (l, inl o)) = o
 no_bound_goal set ks ls a b (inr (l, inr o)) = o
 
-agree_open : (set : Settings) (c : Items) (v : Variance) (a b : Tree) → IsLeftOpen set a b → sort_of a ≡ sort_of b →
+pub agree_open : (set : Settings) (c : Items) (v : Variance) (a b : Tree) → IsLeftOpen set a b → sort_of a ≡ sort_of b →
     Agree set c (at v) a b
 agree_open set c v (node h xs) (node k ys) l s = inl (inr (l, s))
 agree_open set c v (bind ks a) (bind ls b) l s = absurd (no_bound_goal set ks ls a b l)
 agree_open set c v a b l s = inl (inr (l, s))
 
-deferred_open : (set : Settings) (a b : Tree) → IsDeferred set a b → IsLeftOpen set a b
+pub deferred_open : (set : Settings) (a b : Tree) → IsDeferred set a b → IsLeftOpen set a b
 deferred_open set a b (inl l) = inl l
 deferred_open set a b (inr (l, inl o)) = inr (l, inl (beside_is_opaque a b o))
 deferred_open set a b (inr (l, inr o)) = inr (l, inr (beside_is_opaque b a o))

@@ -4,12 +4,12 @@ use Rattle.term_enums.specs.declared.Variance.{Variance}
 use Rattle.term_enums.specs.declared.Variance.TheVariants.{Bivariant}
 use Rattle.relation_terms.specs.Heads.{region_sort, bound_sort, atom_sort, Leaf, variable, bound, placeholder, atom}
 use Rattle.relation_terms.specs.Heads.{unknown}
-use Rattle.relation_terms.specs.Trees.{Tree, leaf, node, bind, cons, count}
+use Rattle.relation_terms.specs.Trees.{Tree, leaf, node, bind, cons, count, apply}
 use Rattle.relation_semantics.specs.Relation.{Items, Way, at, parts, second_opened, first_opened, part_at, plain}
 use Rattle.relation_semantics.specs.Relation.{sort_of, IsErrorAtom, IsAlias}
 use Rattle.relation_semantics.specs.Settings.{Settings, DefersAliases, LeavesOpaque}
 use Rattle.relation_semantics.specs.Steps.{IsNumberKind}
-use Rattle.relation_semantics.specs.Stores.{MayStandFor}
+use Rattle.relation_semantics.specs.Stores.{Store, MayStandFor, resolved}
 use Rattle.relation_semantics.specs.Errors.{AreAlike, IsOpaque}
 
 -- What agrees with a term of its sort: a region, a variable, what a binder binds, and an error; but the variable of a
@@ -58,3 +58,7 @@ AgreeBy k c (at v) a b = Agree k c (at v) a b
 AgreeBy k c (parts h i v) a b = Agree k c (parts h i v) a b
 AgreeBy k c (second_opened ks ls v) a b = Agree k c (at v) a b
 AgreeBy k c (first_opened ks ls v) a b = Agree k c (at v) a b
+
+-- The same of what they come to by what a record has.
+abbrev pub AgreeIn : Settings → Items → Store → Way → Tree → Tree → Type 0
+AgreeIn k c st way a b = AgreeBy k c way (apply (resolved st) a) (apply (resolved st) b)
