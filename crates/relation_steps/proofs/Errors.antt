@@ -22,9 +22,10 @@ error_came st t h = absurd h
 -- So it does by what any record has.
 pub error_agreed : (set : Settings) (c : Items) (st : Store) → IsSound st → (v : Variance) (a b : Tree) →
     IsError a ⊎ IsError b → sort_of a ≡ sort_of b → AgreeIn set c st (at v) a b
-error_agreed set c st g v a b one s = agree_flexible set c v (apply (resolved st) a) (apply (resolved st) b)
-    (either (apply (resolved st) a) (apply (resolved st) b) (error_came st a) (error_came st b) one,
-    came_sort st g a ∙ s ∙ sym (came_sort st g b))
+error_agreed set c st g v a b one s = agree_flexible set c v (apply (resolved st) a) (apply (resolved st) b) (
+  either (apply (resolved st) a) (apply (resolved st) b) (error_came st a) (error_came st b) one,
+  came_sort st g a ∙ s ∙ sym (came_sort st g b),
+)
   where
     either : (x y : Tree) → (IsError a → IsError x) → (IsError b → IsError y) → IsError a ⊎ IsError b →
         IsFlexible x y ⊎ IsFlexible y x
