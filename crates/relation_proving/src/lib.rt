@@ -9,6 +9,7 @@ pub mod checking;
 mod comparing;
 pub mod fitting;
 pub mod opening;
+mod ordering;
 pub mod proving;
 pub mod reading;
 mod searching;

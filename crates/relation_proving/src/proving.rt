@@ -13,6 +13,7 @@ use crate::barring::is_passed_over;
 use crate::blaming::blame_of;
 use crate::candidate::{Candidate, try_rule};
 use crate::opening::RuleOf;
+use crate::ordering::is_of_variable;
 use crate::reading::comes_to_one;
 use crate::searching::{
     Round, RoundOf, Search, Tried, TriedOf, Verdict, VerdictOf, is_over, keep_told, settle,
@@ -28,14 +29,15 @@ use relation_terms::terms::{Clause, ParamEnv, Span};
 /// as a rule that binds nothing and asks for nothing.
 ///
 /// Each rule is opened, and what it gives is related with the goal; what it asks for is proved in turn, at one less
-/// depth, in rounds: what isn't told of a goal is asked again once another was proved. It is `Yes` where the goal
-/// follows by one rule alone and no other is left, and, where no variable but of regions stands in what it comes to by
-/// what is recorded, by the first rule by which it follows; the record is then what that one leaves, and the answer
-/// has its place. Where more than one rule is left it is `Maybe(Ambiguous)`, and so it is where a binder that binds
-/// something, another predicate than that a trait is implemented or to what an alias comes, or a goal that relating
-/// leaves stands in the way; where the depth is spent, `Maybe(Depth)`, which counts first. A `No` names the goal that
-/// failed in the end, and the rule that asked for it, of the first rule that gives the goal; it names none where no
-/// rule does. An alias stands for itself, but where a goal or a rule says to what it comes.
+/// depth, in rounds, what says something of a variable last: what isn't told of a goal is asked again once another was
+/// proved. It is `Yes` where the goal follows by one rule alone and no other is left, and, where no variable but of
+/// regions stands in what it comes to by what is recorded, by the first rule by which it follows; the record is then
+/// what that one leaves, and the answer has its place. Where more than one rule is left it is `Maybe(Ambiguous)`, and
+/// so it is where a binder that binds something, another predicate than that a trait is implemented or to what an
+/// alias comes, or a goal that relating leaves stands in the way; where the depth is spent, `Maybe(Depth)`, which
+/// counts first. A `No` names the goal that failed in the end, and the rule that asked for it, of the first rule that
+/// gives the goal; it names none where no rule does. An alias stands for itself, but where a goal or a rule says to
+/// what it comes.
 ///
 /// The interner has to know the environment, the rules and the goal, whose binders bind by their lists; their variables
 /// and placeholders are the context's. Where no variable stands in a rule, each assignment that satisfies what is
@@ -192,7 +194,8 @@ fn all_follow<C: KeepsRecord>(
     Ok(Verdict::Proven)
 }
 
-// Whether one of a list follows that the rule at a place asks for, or none of it is told of.
+// Whether one of a list follows that the rule at a place asks for, or none of it is told of. Those of variables are asked
+// last.
 #[cycle(proving)]
 fn one_follows<C: KeepsRecord>(
     ctx: &mut C,
@@ -210,15 +213,20 @@ fn one_follows<C: KeepsRecord>(
     ensures tells { IfOk result (TellsRound (C.state ctx.old) (C.state ctx.new) rules.now param_env goals.now) }
 {
     let mut why = Why::Ambiguous;
-    for (place, goal) in goals.iter().enumerate() {
-        match follows(ctx, rules, param_env, goal, depth, span)? {
-            Told::Yes(_) => return Ok(Round::Proved(place)),
-            Told::No(named) => {
-                let blame = blame_of(ctx, rules, named, goal, by)?;
-                return Ok(Round::Failed(blame));
+    for of_variable in [false, true] {
+        for (place, goal) in goals.iter().enumerate() {
+            if is_of_variable(&*ctx, goal) != of_variable {
+                continue;
             }
-            Told::Maybe(again) => {
-                why = worse(why, again);
+            match follows(ctx, rules, param_env, goal, depth, span)? {
+                Told::Yes(_) => return Ok(Round::Proved(place)),
+                Told::No(named) => {
+                    let blame = blame_of(ctx, rules, named, goal, by)?;
+                    return Ok(Round::Failed(blame));
+                }
+                Told::Maybe(again) => {
+                    why = worse(why, again);
+                }
             }
         }
     }

@@ -64,8 +64,8 @@ pub(crate) fn comes_to_one<C: InferCtxtLike>(
     Ok(!has_non_region_infer(ctx.cx(), &resolved))
 }
 
-// The arguments of the trait or the item that a clause says something of.
-fn args_of<X: Copy, D: Copy, N: Copy>(kind: &ClauseKind<X, D, N>) -> Option<ArgsKey<X>>
+/// The arguments of the trait or the item that a clause says something of.
+pub(crate) fn args_of<X: Copy, D: Copy, N: Copy>(kind: &ClauseKind<X, D, N>) -> Option<ArgsKey<X>>
     ensures { result ≡ arguments_of kind.now }
 {
     match kind {

@@ -292,8 +292,24 @@ all_follow-returns g t c =
     }
 
 -- One goal of a list.
+pub one_follows-loop-of_variable-init : goal.one_follows-loop-of_variable-init
+one_follows-loop-of_variable-init g t c = back_itself (g.C.InferCtxtLike.state c.args.ctx.now) c.requires.may.lawful
+
 pub one_follows-loop-place-init : goal.one_follows-loop-place-init
-one_follows-loop-place-init g t c = back_itself (g.C.InferCtxtLike.state c.args.ctx.now) c.requires.may.lawful
+one_follows-loop-place-init g t c = c.loop-of_variable.invariant
+
+pub one_follows-is_of_variable-requires : goal.one_follows-is_of_variable-requires
+one_follows-is_of_variable-requires g t c =
+    let s = g.C.InferCtxtLike.state c.args.ctx.now in
+    let d = g.C.InferCtxtLike.state c.loop-place.ctx in
+    record {
+      lawful = c.loop-place.invariant.lawful;
+      goal = subst (MayAsk d) (sym c.index-goals-place.is) (asks_on s d (back_goes s d c.loop-place.invariant)
+          c.args.goals.now c.requires.goals c.loop-place.place c.index-goals-place.result c.loop-place-test.true);
+    }
+
+pub one_follows-loop-of_variable-preserved : goal.one_follows-loop-of_variable-preserved
+one_follows-loop-of_variable-preserved g t c = c.loop-place.invariant
 
 pub one_follows-follows-requires : goal.one_follows-follows-requires
 one_follows-follows-requires g t c κs within =
@@ -371,7 +387,7 @@ one_follows-loop-place-preserved g t c =
 
 pub one_follows-returns : goal.one_follows-returns
 one_follows-returns g t c = record {
-  goes_on = back_goes (g.C.InferCtxtLike.state c.args.ctx.now) (g.C.InferCtxtLike.state c.loop-place.ctx)
-      c.loop-place.invariant;
+  goes_on = back_goes (g.C.InferCtxtLike.state c.args.ctx.now) (g.C.InferCtxtLike.state c.loop-of_variable.ctx)
+      c.loop-of_variable.invariant;
   tells = tt;
 }

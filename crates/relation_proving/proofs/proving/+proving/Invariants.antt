@@ -33,6 +33,9 @@ abbrev pub decreases-all_follow-rounds : goal.decreases-all_follow-rounds
 decreases-all_follow-rounds g l = vec_len l.left
 
 -- Of the goals so far it isn't told.
+abbrev pub invariant-one_follows-loop-of_variable : goal.invariant-one_follows-loop-of_variable
+invariant-one_follows-loop-of_variable g l =
+    IsBack (g.C.InferCtxtLike.state l.fn.ctx) (g.C.InferCtxtLike.state l.ctx)
+
 abbrev pub invariant-one_follows-loop-place : goal.invariant-one_follows-loop-place
-invariant-one_follows-loop-place g l =
-    IsBack (g.C.InferCtxtLike.state l.initial.ctx) (g.C.InferCtxtLike.state l.ctx)
+invariant-one_follows-loop-place g l = IsBack (g.C.InferCtxtLike.state l.fn.ctx) (g.C.InferCtxtLike.state l.ctx)
