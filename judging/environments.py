@@ -133,4 +133,5 @@ def goal_in(environment, impl, clause):
 
     own = {spelled(impl.of, impl.trait, item): put(ty, environment.values) for item, ty in impl.gives}
     aliases = Aliases(variable, [*own.items(), *environment.aliases.said()])
-    return [*asked, aliases.clause(put(clause, environment.values))]
+    last = aliases.clause(put(clause, environment.values))
+    return [*asked, last]
