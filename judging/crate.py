@@ -45,7 +45,7 @@ class Crate:
         self.of = Described(file)
         # What is seen of other crates' items counts from the start, and so does what traits state: all is read thrice.
         for _ in range(3):
-            self.traits, self.impls = {}, []
+            self.traits, self.impls, self.headless, self.told_of = {}, [], [], set()
             self.of.sorts.clear()
             self.declare_types()
             for id, item in sorted(self.of.index.items(), key=lambda it: int(it[0])):
@@ -90,11 +90,12 @@ class Crate:
                 bounds.lacks.append(described.GENERIC)
             else:
                 of_types.add(spelled("Self", own, ty["name"]), ty["inner"]["assoc_type"]["bounds"])
-        supers = [it for it in bounds.clauses if is_plain(it)]
-        states = [it for it in bounds.clauses if not is_plain(it)] + of_types.clauses
+        count = len(it["generics"]["params"])
+        params, more = scope.params[:count], {it: "'static" for _, it in scope.params[count:]}
+        # A region that a binder binds is any: one stands for all.
+        supers = [put(it, more) for it in bounds.clauses if is_plain(it)]
+        states = [put(it, more) for it in [*(it for it in bounds.clauses if not is_plain(it)), *of_types.clauses]]
         lacks, local = bounds.lacks + of_types.lacks, item["crate_id"] == self.of.crate
-        params = it["generics"]["params"]
-        params = scope.params[: len(params)]
         self.traits[name] = Trait(self.of.place(item), name, params, supers, states, lacks, it["is_auto"], local)
 
     def add_impl(self, item, it):
@@ -103,6 +104,7 @@ class Crate:
         blanket = it["blanket_impl"]
         if blanket and (local or self.of.is_local(it["trait"]["id"]) or self.of.is_known(it["trait"]["id"])):
             return
+        self.told_of.add((self.of.name_of(it["trait"]["id"], it["trait"]["path"]), head_id(it)))
         if it["is_synthetic"] and it["is_negative"]:
             return
         origin = AUTO if it["is_synthetic"] else OTHER if blanket or not local else OWN
@@ -116,6 +118,7 @@ class Crate:
             of, trait = scope.me, scope.trait(it["trait"], scope.me)
         except Unspelled as why:
             of, trait = None, str(why)
+            self.note_headless(name, scope, it)
         scope.said.append(f"{of}: {trait}")
         bounds.add_generics(it["generics"])
         if described.UNKNOWN in bounds.lacks:
@@ -127,6 +130,17 @@ class Crate:
         params, asks = scope.params, bounds.clauses
         made = Impl(place, origin, params, name, trait, of, asks, lacks, unsized, gives, unsaid, ())
         self.impls.append(self.with_params(made))
+
+    def note_headless(self, name, scope, it):
+        """Notes an impl whose head isn't spelled: of its type and its trait that which is, and else nothing."""
+        if not it["is_negative"]:
+            parts = []
+            for spell in (lambda: scope.ty(it["for"]), lambda: scope.trait(it["trait"], "X")):
+                try:
+                    parts.append(spell())
+                except Unspelled:
+                    parts.append(None)
+            self.headless.append((name, *parts, scope.params))
 
     def given(self, scope, name, item):
         """Gives what an impl says that its trait's types are, and why some aren't spelled."""
@@ -266,6 +280,11 @@ def is_blanket(impl):
 def is_whole(lacks):
     """Says whether what isn't spelled is only what answers leave open of all: regions, and what is sized."""
     return not set(lacks) - {described.OUTLIVES, described.BINDER, described.SIZED}
+
+
+def head_id(it):
+    """Gives the item of the type that an impl is of, if it has one."""
+    return it["for"].get("resolved_path", {}).get("id")
 
 
 def is_generic(ty):

@@ -269,7 +269,10 @@ class Scope:
         if item and "type_alias" in item["inner"]:
             return self.aliased(it, item["inner"]["type_alias"])
         if self.of.kind_of(it["id"]) == "type_alias":
-            raise Unspelled(ALIAS)
+            known = library().aliases.get(it["path"].split("::")[-1])
+            if known is None or self.of.paths[str(it["id"])]["path"][0] not in ("core", "std"):
+                raise Unspelled(ALIAS)
+            return known
         args = self.args(it)
         name = self.of.name_of(it["id"], it["path"])
         return f"{name}<{', '.join(args)}>" if args else name

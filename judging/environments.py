@@ -35,23 +35,31 @@ class Environment:
         may come to something by impls are left out, with what is asked of them: they are `unknown`, with their aliases.
         """
         self.crate, self.clauses, self.made, self.depths = crate, [], set(), {}
-        self.values, self.unknown = values, []
-        params = {name for _, name in impl.params} - {name for name, _ in impl.made}
-        for name, alias in impl.made:
-            of = put(alias[0], values)
-            if of in params:
-                params.add(name)
-            elif name not in values:
-                self.unknown.append((name, put(spelled(*alias), values)))
-        left = {name for name, _ in self.unknown}
-        bounds = [put(it, values) for it in impl.asks if not left & set(WORD.findall(it))]
-        own = {f"{put(spelled(*alias), values)} == {values[name]}" for name, alias in impl.made if name in values}
-        bounds = [it for it in bounds if it not in own or comes_to(it)[1] in values]
+        self.values, self.unknown = values, self.unknown_of(impl, values)
         self.aliases = Aliases(self.parameter)
+        bounds = self.bounds_of(impl)
         for it in bounds:
             self.aliases.note(it)
         for it in bounds:
             self.add(it)
+
+    def unknown_of(self, impl, values):
+        """Gives the parameters that stand for aliases of types which are no parameters, if nothing is known of them."""
+        params, found = {name for _, name in impl.params} - {name for name, _ in impl.made}, []
+        for name, alias in impl.made:
+            if put(alias[0], values) in params:
+                params.add(name)
+            elif name not in values:
+                found.append((name, put(spelled(*alias), values)))
+        return found
+
+    def bounds_of(self, impl):
+        """Gives an impl's bounds, without those of what is unknown, and those that say only what an alias came to."""
+        left = {name for name, _ in self.unknown}
+        bounds = [put(it, self.values) for it in impl.asks if not left & set(WORD.findall(it))]
+        made = [(put(spelled(*alias), self.values), self.values.get(name)) for name, alias in impl.made]
+        own = {f"{alias} == {term}" for alias, term in made if term is not None}
+        return [it for it in bounds if it not in own or comes_to(it)[1] in self.values]
 
     def parameter(self, of, trait, item):
         taken = {*self.made, *self.crate.of.taken, *re.findall(r"\w+", " ".join(self.clauses))}
@@ -133,4 +141,5 @@ def goal_in(environment, impl, clause):
 
     own = {spelled(impl.of, impl.trait, item): put(ty, environment.values) for item, ty in impl.gives}
     aliases = Aliases(variable, [*own.items(), *environment.aliases.said()])
-    return [*asked, aliases.clause(put(clause, environment.values))]
+    last = aliases.clause(put(clause, environment.values))
+    return [*asked, last]

@@ -63,7 +63,7 @@ impl<T: AsRef<str>> AsRef<str> for Row<T> {
     }
 }
 
-/// For all that is known of other crates, `Vec` could have `From<Row<T>>`.
+/// It is told from the one for all types: no other crate has `From<Row<T>>` for a type of its own.
 impl<T> Into<Vec<T>> for Row<T> {
     fn into(self) -> Vec<T> {
         vec![self.0]

@@ -16,7 +16,8 @@ END = re.compile(r";(?![^\[\]]*\])")
 
 # Parameters as (sort, name, default), by the name of a type or a trait; the types that a trait declares; what a trait
 # states of what implements it, and of these types; impls.
-Library = collections.namedtuple("Library", "types unsized traits autos declared supers stated impls never outside")
+PARTS = "types unsized traits autos declared supers stated impls never outside aliases fundamental reflexive"
+Library = collections.namedtuple("Library", PARTS)
 # What an impl has: parameters as (sort, name); its trait with arguments, the type, and bounds, each as text; what the
 # types of its trait are, by their names.
 Impl = collections.namedtuple("Impl", "params trait of asks gives")
@@ -84,7 +85,7 @@ def form_head(text):
 def library():
     """Gives the library, read once."""
     lists = [collections.defaultdict(list) for _ in range(3)]
-    found = Library({}, set(), {}, set(), *lists, [], set(), set())
+    found = Library({}, set(), {}, set(), *lists, [], set(), set(), {}, set(), set())
     with open(FILE, encoding="utf-8") as it:
         lines = [line for line in it.read().splitlines() if not line.startswith("//")]
     for text in END.split(" ".join(" ".join(lines).split())):
@@ -99,6 +100,10 @@ def library():
         elif kind == "super":
             trait, _, stated = rest.partition(": ")
             found.supers[trait].extend(split_list(stated))
+        elif kind in ("fundamental", "reflexive"):
+            getattr(found, kind).update(split_list(rest))
+        elif kind == "alias":
+            found.aliases.update([rest.split(" = ")])
         elif kind == "type":
             item, _, stated = rest.partition(": ")
             trait, _, item = item.partition("::")

@@ -1,5 +1,4 @@
 """Rules for what a crate leaves open: what isn't spelled, and what other crates may have."""
-from judging import described
 from judging.aliases import closing, comes_to, cut
 from judging.crate import ELSEWHERE, generic, impl_text, is_whole, names_first, numbered
 from judging.library import WORD, form_head, library
@@ -27,33 +26,53 @@ def all_own(crate):
             it = it._replace(params=params, gives=(*it.gives, *free))
         if it.of:
             rules.append(f"{impl_text(it)};")
-    headless = {it.name for it in crate.impls if not it.of and it.trait != described.NEGATIVE}
-    return rules + [rule(crate, crate.traits[it], "X", [("type", "X")]) for it in sorted(headless)]
+    return rules + headless(crate) + autos(crate)
+
+
+def headless(crate):
+    """Gives an impl for each whose head isn't spelled: of all types, or over all."""
+    found = []
+    for name, of, trait, params in crate.headless:
+        if name in crate.traits:
+            own = [*params, *([] if of else [("type", "X")])]
+            found.append(rule(crate, crate.traits[name], of or "X", own, trait))
+    return found
+
+
+def autos(crate):
+    """Gives an impl of each auto trait for each type of the crate of which the description doesn't say whether it has it."""
+    found = []
+    for trait in crate.traits.values():
+        for name, params in crate.types.items() if trait.auto else ():
+            if crate.is_local_type(name) and (trait.name, int(crate.ids[name])) not in crate.told_of:
+                args = f"<{', '.join(it for _, it in params)}>" if params else ""
+                found.append(rule(crate, trait, name + args, params))
+    return found
 
 
 def types_of(crate, trait):
     return crate.of.declared.get(trait, ())
 
 
-def rule(crate, trait, of, params, outside=False):
-    """Gives an impl of a trait for a type, whatever its types are, and whatever it is over, or only types of others."""
-    own = [(sort, numbered(sort, at, ("'y", "Y", "M"))) for at, (sort, _) in enumerate(trait.params)]
+# The traits of types that are of other crates, and of those in which there is none of the crate's own.
+HEAD, WHOLE = "type_of_others", "types_of_others"
+
+
+def rule(crate, trait, of, params, over=None, marker=None):
+    """Gives an impl of a trait for a type, whatever its types are, and whatever it is over, if that has a trait."""
+    own = [(sort, numbered(sort, at, ("'y", "Y", "M"))) for at, (sort, _) in enumerate([] if over else trait.params)]
     args = f"<{', '.join(name for _, name in own)}>" if own else ""
     gives = [(item, f"Z{at}") for at, item in enumerate(types_of(crate, trait.name))]
     given = f" {{ {', '.join(' = '.join(it) for it in gives)} }}" if gives else ""
     params = [*params, *own, *(("type", name) for _, name in gives)]
-    asks = where(own) if outside else ""
-    return f"impl{generic(params)} {trait.name}{args} for {of}{given}{asks};"
+    asks = where(own, marker) if marker else ""
+    return f"impl{generic(params)} {over or trait.name + args} for {of}{given}{asks};"
 
 
-def where(params):
-    """Asks of parameters that they are types of other crates."""
-    asks = [f"{name}: {OUTSIDE}" for sort, name in params if sort == "type"]
+def where(params, marker):
+    """Asks a trait of all types among parameters."""
+    asks = [f"{name}: {marker}" for sort, name in params if sort == "type"]
     return f" where {', '.join(asks)}" if asks else ""
-
-
-# The trait of types in which there is none of the crate's own.
-OUTSIDE = "types_of_others"
 
 
 def perhaps(crate):
@@ -64,8 +83,11 @@ def perhaps(crate):
     """
     forms = foreign_forms(crate)
     of_params = [name for name, sort in crate.of.sorts.items() if sort == "type"]
-    rules = [f"trait {OUTSIDE};", *all_own(crate), *(f"impl {OUTSIDE} for {it};" for it in of_params)]
-    rules += [f"impl{generic(params)} {OUTSIDE} for {of}{where(params)};" for of, params in forms]
+    rules = [f"trait {HEAD};", f"trait {WHOLE};", *all_own(crate)]
+    rules += [f"impl {marker} for {it};" for it in of_params for marker in (HEAD, WHOLE)]
+    for of, params in forms:
+        start = f"impl{generic(params)}"
+        rules += [f"{start} {HEAD} for {of};", f"{start} {WHOLE} for {of}{where(params, WHOLE)};"]
     asked = asked_traits(crate)
     for it in crate.traits.values():
         if it.name in asked:
@@ -76,14 +98,15 @@ def perhaps(crate):
 
 
 def perhaps_for(crate, trait, forms):
-    """Gives the forms of types that may have a trait, and whether only over types of other crates."""
-    known = {crate.named.get(it, it): it for it in library().traits}
+    """Gives the forms of types that may have a trait, and what is to be so of what that is over."""
+    known = {crate.named.get(it, it): it for it in library().traits}.get(trait.name)
     types = {crate.named.get(it, it): it for it in library().types}
     for of, params in forms:
-        form = form_head(of)
-        pair = (known.get(trait.name), types.get(form, form))
-        if of.startswith("(dyn ") or not trait.local and pair not in library().never:
-            yield of, params, pair in library().outside
+        pair = (known, types.get(form_head(of), form_head(of)))
+        is_never = pair in library().never or known in library().fundamental and "fn(" not in of
+        if of.startswith("(dyn ") or not trait.local and not is_never:
+            marker = HEAD if known in library().reflexive else None
+            yield of, params, None, WHOLE if pair in library().outside else marker
 
 
 def asked_traits(crate):
