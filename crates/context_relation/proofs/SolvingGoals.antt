@@ -1,6 +1,6 @@
 -- Registering that of two type variables the one is a subtype of the other, as a step; and a goal as the relation of a
 -- context registers it.
-use Rattle.std.proofs.Common.{◌≡◌, ℕ, refl, sym, ap₂, subst, true, false, Some, List, [], ◌∷◌, IsTrue, Result, Ok}
+use Rattle.std.proofs.Common.{◌≡◌, ℕ, refl, sym, ap, ap₂, subst, true, false, Some, List, [], ◌∷◌, IsTrue, Result, Ok}
 use Rattle.std.specs.Result.{IsErr}
 use Rattle.std.proofs.lemmas.Bool.{and_from}
 use Rattle.std.proofs.lemmas.List.Elements.{All-nil, All-cons, All-head}

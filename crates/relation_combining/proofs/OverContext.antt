@@ -22,7 +22,7 @@ use Rattle.relation_folds.specs.Faults.{KnowsError}
 use Rattle.relation_semantics.specs.declared.relate.Step.TheVariants.{Done, Parts}
 use Rattle.term_enums.specs.declared.StructurallyRelateAliases.TheVariants.{No}
 use Rattle.relation_semantics.specs.Settings.{Settings}
-use Rattle.relation_semantics.specs.Relation.{Items, Interpretation, Rel, at, IsError, same as same_rel}
+use Rattle.relation_semantics.specs.Relation.{Items, Interpretation, Rel, at, sort_of, IsError, same as same_rel}
 use Rattle.relation_semantics.specs.Agreeing.{AgreeIn}
 use Rattle.relation_semantics.proofs.AgreeingBefore.{same_agreed, root_agreed, root_agreed_back, read_agreed}
 use Rattle.relation_semantics.proofs.Beginning.{begins_by}

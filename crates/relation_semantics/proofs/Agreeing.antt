@@ -1,5 +1,5 @@
 -- What agrees, and that bodies agreed before their binders were opened.
-use Rattle.std.proofs.Common.{◌≡◌, ◌≢◌, ◌⊎◌, ℕ, zero, suc, ◌<◌, ◌+◌, refl, sym, ap, ◌∙◌, inl, inr, subst, arith}
+use Rattle.std.proofs.Common.{◌≡◌, ◌≢◌, ◌⊎◌, ℕ, zero, suc, ◌<◌, ◌+◌, refl, sym, ap, ◌∙◌, inl, inr, subst, subst₂, arith}
 use Rattle.std.proofs.Common.{List, [], ◌∷◌, true, false}
 use Rattle.std.specs.Prelude.{nat_eq, cond, Some, slice_get}
 use Rattle.std.proofs.lemmas.Bool.Decides.{eqb_tells}

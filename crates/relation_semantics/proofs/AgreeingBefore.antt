@@ -1,9 +1,9 @@
 -- What agrees by an earlier record: reading by a later one keeps it, and so does opening binders.
 use Rattle.std.proofs.Common.{◌≡◌, ◌⊎◌, ℕ, zero, suc, ◌+◌, ◌<◌, ◌≤◌, refl, sym, ap, ◌∙◌, inl, inr, subst, subst₂, arith, List}
-use Rattle.std.proofs.Common.{map}
+use Rattle.std.proofs.Common.{[], ◌∷◌, map}
 use Rattle.term_enums.specs.declared.Variance.{Variance}
 use Rattle.term_enums.specs.declared.Variance.TheVariants.{Bivariant}
-use Rattle.relation_terms.specs.Heads.{region_sort, BoundKind, VarKind, alias, opaque_alias, Head}
+use Rattle.relation_terms.specs.Heads.{region_sort, BoundKind, VarKind, var_sort, alias, opaque_alias, unevaluated, Head}
 use Rattle.relation_terms.specs.Heads.{variable, bound, placeholder, atom, unknown}
 use Rattle.relation_terms.specs.Trees.{Tree, leaf, node, bind, nil, cons, apply, inst, count, nth, IsList, Leaves}
 use Rattle.relation_semantics.specs.Relation.{Items, StaysWithin, at, parts, part_at, sort_of, IsAlias}

@@ -1,6 +1,7 @@
 -- What relating may have begun with, while more is recorded and remembered.
-use Rattle.std.proofs.Common.{◌≡◌, ◌⊎◌, ℕ, ◌<◌, sym, inl, inr, subst, subst₂, arith, List, [], Contains, IsTrue}
+use Rattle.std.proofs.Common.{◌≡◌, ◌⊎◌, ℕ, ◌<◌, sym, ap, ap₂, ◌∙◌, inl, inr, subst, subst₂, arith, List, [], Contains, IsTrue}
 use Rattle.std.proofs.Common.{Result, ⊎_elim}
+use Rattle.term_enums.specs.declared.Variance.{Variance}
 use Rattle.relation_terms.specs.Trees.{Tree, known}
 use Rattle.relation_terms.specs.Meaning.{Meaning, Extends}
 use Rattle.relation_folds.specs.declared.error.RelateFault.{RelateFault}
@@ -10,7 +11,7 @@ use Rattle.relation_semantics.specs.Steps.{IsLater}
 use Rattle.relation_semantics.specs.Stores.{Store, IsSound}
 use Rattle.relation_semantics.specs.Agreeing.{AgreeIn}
 use Rattle.relation_semantics.specs.Lawful.{State, Pair, Passes, HasAgreed, MayBegin, BeganWith, AgreesIn, MeansPair, Noted}
-use Rattle.relation_semantics.specs.Lawful.{RemembersAtMost, WithMeaning, items_of}
+use Rattle.relation_semantics.specs.Lawful.{RemembersAtMost, WithMeaning, items_of, items_in}
 use Rattle.relation_semantics.proofs.Answering.{items_stay, same_items, same_settings}
 use Rattle.relation_semantics.proofs.Going.{later_itself, later_through}
 
