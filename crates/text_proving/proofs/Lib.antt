@@ -2,4 +2,3 @@ mod Closing
 mod Serving
 pub mod Making
 pub mod Implying
-mod Giving

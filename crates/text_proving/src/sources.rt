@@ -57,7 +57,7 @@ pub fn write_source<W: Write>(source: Source, out: &mut W) -> fmt::Result
 {
     match source {
         Source::Impl(number) => write!(out, "impl {number}"),
-        Source::Assumed => out.write_str("what is assumed"),
-        Source::Implied => out.write_str("what is implied"),
+        Source::Assumed => write!(out, "what is assumed"),
+        Source::Implied => write!(out, "what is implied"),
     }
 }

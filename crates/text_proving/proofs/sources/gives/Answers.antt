@@ -1,5 +1,8 @@
-use Rattle.text_proving.proofs.Giving.{body_known, first_known, gives_first, first_given, nothing_given}
+use Rattle.relation_terms.proofs.Binders.{under_known}
 use Rattle.text_proving.proofs.sources.gives.Goals as goal
 
 pub clauses-requires : goal.clauses-requires
-clauses-requires g c = body_known (g.I.Interner.meaning c.args.cx.now) c.args.rule.now c.requires.rule
+clauses-requires g c =
+    let m = g.I.Interner.meaning c.args.cx.now in
+    let r = c.args.rule.now in
+    (under_known (m.bound_vars r.bound_vars) (m.clauses r.value) c.requires.rule).1
