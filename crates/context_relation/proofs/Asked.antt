@@ -17,6 +17,9 @@ use Rattle.relation_semantics.specs.Relation.{Items, Interpretation, Rel, at, pa
 use Rattle.relation_semantics.proofs.Asking.{no_alias_term, nothing_at_bivariance, no_alias_nth}
 use Rattle.relation_semantics.proofs.Related.{region_of, forms_inverted}
 use Rattle.context_relation.specs.Completing.{IsSoWanted, RelatesWhereAsked}
+use Rattle.relation_semantics.specs.Agreeing.{Agree}
+use Rattle.relation_semantics.specs.Stores.{resolved}
+use Rattle.relation_semantics.proofs.Trees.{apply_ground}
 use Rattle.context_relation.specs.Relating.{term_in, RelatesAgreeing}
 use Rattle.relation_combining.specs.Solving.{solver_settings}
 use Rattle.context_relation.proofs.AskedGoals.{rule_holds, agreeing_related}
@@ -92,5 +95,6 @@ related_where_asked state old new over tree g e v a b (Ok t) agrees s x y p q = 
     let j = shaped (one (term_of s)) r y.0 in (
       (λ rel z asks u. related_asked c w k u asks rel i.1 p.1 q.1 x.1 y.1),
       (λ so. agreeing_related c w k (solver_settings g (state old).setup) v l r i.0 j.0 (i.1, p.0, p.2, x.1)
-          (j.1, q.0, q.2, y.1) so agrees),
+          (j.1, q.0, q.2, y.1) so (subst₂ (Agree (solver_settings g (state old).setup) c (at v))
+          (apply_ground (resolved (state old).store) l x.1) (apply_ground (resolved (state old).store) r y.1) agrees)),
     )

@@ -13,13 +13,12 @@ use Rattle.relation_semantics.specs.Relation.{Items, Interpretation, Outlives, R
 use Rattle.relation_semantics.specs.Settings.{Settings}
 use Rattle.relation_semantics.specs.Steps.{HasNoBinder}
 use Rattle.relation_semantics.specs.Goals.{alias_relate_predicate}
-use Rattle.relation_semantics.specs.Errors.{AreAlike, IsDeferred}
+use Rattle.relation_semantics.specs.Errors.{AreAlike}
 use Rattle.relation_semantics.specs.Agreeing.{IsFlexible, AreFlexible, IsLeftAside, Agree}
 use Rattle.relation_semantics.specs.Asking.{a_constraint, a_goal, region_at, HaveAlias, AsksFor, of_regions, of_aliases, of_unevaluated, of_parts, IsPlainLeaf, IsPlainHead, IsPlainTerm}
 use Rattle.relation_semantics.specs.Stores.{Constraint, outlives_constraint, equal_constraint, ConstraintHolds}
-use Rattle.relation_semantics.proofs.Agreeing.{agree_sorts}
+use Rattle.relation_semantics.proofs.Agreeing.{agree_sorts, open_alias}
 use Rattle.relation_semantics.proofs.Erased.{no_error_atom}
-use Rattle.relation_semantics.proofs.Deferring.{opaque_is_alias, beside_is_opaque}
 use Rattle.relation_semantics.proofs.Related.{no_region_head}
 use Rattle.relation_semantics.proofs.Trees.{apply_ground}
 use Rattle.context_relation.specs.Completing.{AskedHolds, AskedIsSo}
@@ -136,23 +135,18 @@ module _ (c : Items) (w : Interpretation) (e : Tree) where
     related_head environment f = absurd f
     related_head h f = tt
 
-    left_have : (a b : Tree) → IsDeferred set a b → HaveAlias a b
-    left_have a b (inl (l, i)) = i
-    left_have a b (inr (l, inl o)) = inl (opaque_is_alias a (beside_is_opaque a b o))
-    left_have a b (inr (l, inr o)) = inr (opaque_is_alias b (beside_is_opaque b a o))
-
     aside : (v : Variance) (a b : Tree) → Suited a → Suited b → AskedIsSo c w e v a b → IsLeftAside set v a b →
         Rel c w e (at v) a b
     aside v a b x y f (inl p) = anything p
-    aside v a b x y f (inr (l, s)) = by_goal a b x.3 y.3 v (left_have a b l) s (asked_goals v a b f)
+    aside v a b x y f (inr (l, s)) = by_goal a b x.3 y.3 v (open_alias set a b l) s (asked_goals v a b f)
 
-    flexible_region : (l : Leaf) → IsPlainLeaf l → IsFlexible (leaf l) → leaf_sort l ≡ region_sort
-    flexible_region (variable k n) f o = f
-    flexible_region (bound k d i) f o = f
-    flexible_region (placeholder k u n) f o = o
-    flexible_region (atom x) f (inl h) = absurd (no_error_atom x h f)
-    flexible_region (atom x) f (inr s) = s
-    flexible_region unknown f o = absurd f
+    flexible_region : (l : Leaf) (u : Tree) → IsPlainLeaf l → IsFlexible (leaf l) u → leaf_sort l ≡ region_sort
+    flexible_region (variable k n) u f o = f
+    flexible_region (bound k d i) u f o = f
+    flexible_region (placeholder k w n) u f o = o
+    flexible_region (atom x) u f (inl h) = absurd (no_error_atom x h f)
+    flexible_region (atom x) u f (inr s) = s
+    flexible_region unknown u f o = absurd f
 
     leaf_regions : (v : Variance) (l m : Leaf) → IsValueLeaf l → IsValueLeaf m → AskedIsSo c w e v (leaf l) (leaf m) →
         leaf_sort l ≡ region_sort → leaf_sort m ≡ region_sort → Rel c w e (at v) (leaf l) (leaf m)
@@ -163,21 +157,21 @@ module _ (c : Items) (w : Interpretation) (e : Tree) where
         AskedIsSo c w e v (leaf l) (leaf m) → AreFlexible (leaf l) (leaf m) ⊎ AreAlike (leaf l) (leaf m) →
         Rel c w e (at v) (leaf l) (leaf m)
     leaf_related v l m f g x y asked (inl (inl o, s)) =
-        let p = flexible_region l f o in leaf_regions v l m x y asked p (sym s ∙ p)
+        let p = flexible_region l (leaf m) f o in leaf_regions v l m x y asked p (sym s ∙ p)
     leaf_related v l m f g x y asked (inl (inr o, s)) =
-        let p = flexible_region m g o in leaf_regions v l m x y asked (s ∙ p) p
+        let p = flexible_region m (leaf l) g o in leaf_regions v l m x y asked (s ∙ p) p
     leaf_related v l m f g x y asked (inr p) = outer_related c w e v l m (leaf_path p)
 
     leaf_is_no_form : {X : Type 0} (l : Leaf) (k : Head) (us : Tree) → IsPlainLeaf l →
         AreFlexible (leaf l) (node k us) ⊎ AreAlike (leaf l) (node k us) → X
-    leaf_is_no_form l k us f (inl (inl o, s)) = absurd (no_region_head k (sym s ∙ flexible_region l f o))
+    leaf_is_no_form l k us f (inl (inl o, s)) = absurd (no_region_head k (sym s ∙ flexible_region l (node k us) f o))
     leaf_is_no_form l k us f (inl (inr o, s)) = absurd o
     leaf_is_no_form l k us f (inr p) = absurd cc
 
     form_is_no_leaf : {X : Type 0} (h : Head) (ts : Tree) (m : Leaf) → IsPlainLeaf m →
         AreFlexible (node h ts) (leaf m) ⊎ AreAlike (node h ts) (leaf m) → X
     form_is_no_leaf h ts m f (inl (inl o, s)) = absurd o
-    form_is_no_leaf h ts m f (inl (inr o, s)) = absurd (no_region_head h (s ∙ flexible_region m f o))
+    form_is_no_leaf h ts m f (inl (inr o, s)) = absurd (no_region_head h (s ∙ flexible_region m (node h ts) f o))
     form_is_no_leaf h ts m f (inr p) = absurd cc
 
     is_alias_head : (h : Head) → IsAliasHead h ⊎ (IsAliasHead h → ⊥)

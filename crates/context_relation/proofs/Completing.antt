@@ -1,6 +1,6 @@
 -- Plain terms without variables are related where they agree, all regions outliving each other and what is asked of
 -- aliases being so; where they are related their erasures agree, and no error comes.
-use Rattle.std.proofs.Common.{◌≡◌, ◌≢◌, ◌⊎◌, ℕ, suc, refl, sym, ap, ap₂, ◌∙◌, inl, inr, subst, subst₂, Option, Result, Ok, Err, None}
+use Rattle.std.proofs.Common.{◌≡◌, ◌≢◌, ◌⊎◌, ℕ, suc, refl, sym, ap, ap₂, ◌∙◌, inl, inr, ⊎_elim, subst, subst₂, Option, Result, Ok, Err, None}
 use Rattle.std.specs.Global.{Vec}
 use Rattle.term_enums.specs.declared.Variance.{Variance}
 use Rattle.term_enums.specs.declared.Variance.TheVariants.{Covariant, Bivariant}
@@ -15,8 +15,8 @@ use Rattle.relation_folds.specs.declared.error.RelateFault.TheVariants.{Memory, 
 use Rattle.term_enums.specs.declared.StructurallyRelateAliases.{StructurallyRelateAliases}
 use Rattle.relation_semantics.specs.Contexts.{Context}
 use Rattle.relation_semantics.specs.Lawful.{items_of, declared_by}
-use Rattle.relation_semantics.specs.Stores.{IsSound, Constraint, outlives_constraint, equal_constraint, ConstraintHolds}
-use Rattle.relation_terms.specs.Heads.{Sort, region_sort, region_kind, type_kind, const_kind, bound_kind, region_var, leaf_sort, Atom, atom_sort, early_region, type_param, const_param, Head, fn_ptr, unsafe_binder, alias, alias_term, unevaluated, value_type, Leaf, variable, bound, placeholder, atom, unknown, one, term_of}
+use Rattle.relation_semantics.specs.Stores.{IsSound, resolved, IsIntegerTerm, IsFloatTerm, Constraint, outlives_constraint, equal_constraint, ConstraintHolds}
+use Rattle.relation_terms.specs.Heads.{Sort, region_sort, region_kind, type_kind, const_kind, bound_kind, int_var, float_var, region_var, leaf_sort, Atom, atom_sort, int_type, uint_type, float_type, early_region, type_param, const_param, Head, fn_ptr, unsafe_binder, alias, alias_term, unevaluated, value_type, Leaf, variable, bound, placeholder, atom, unknown, one, term_of}
 use Rattle.relation_terms.specs.Trees.{Tree, leaf, node, bind, nil, cons, Leaves, Assign}
 use Rattle.relation_terms.specs.Erasure.{erase, erase_leaf, erase_atom, kept_parts}
 use Rattle.relation_semantics.specs.Relation.{Items, Interpretation, Rel, at, parts, same, anything, error_left, error_right, regions, alias_types, equal_consts, atoms, forms, no_parts, next_part, covariant_binders, contravariant_binders, invariant_binders, part_at, plain, sort_of, IsError, IsErrorAtom, IsAlias, IsAliasHead, IsValue, IsValueLeaf, all_outlive}
@@ -25,8 +25,9 @@ use Rattle.relation_semantics.specs.Steps.{HasNoBinder}
 use Rattle.relation_semantics.specs.Errors.{outer_leaf, AreAlike, ErrorOf}
 use Rattle.relation_semantics.specs.Agreeing.{IsFlexible, AreFlexible, IsLeftAside, Agree}
 use Rattle.relation_semantics.specs.Asking.{HaveAlias, IsPlainHead, IsPlainTerm, HasNoAlias, ArePlain, without_aliases, without_binders, Wanted, a_constraint, a_goal, AsksFor}
-use Rattle.relation_semantics.proofs.Agreeing.{agree_anything, agree_same, agree_left, agree_sorts, region_flexible}
+use Rattle.relation_semantics.proofs.Agreeing.{agree_anything, agree_same, agree_left, agree_sorts, open_alias, region_flexible}
 use Rattle.relation_semantics.proofs.Asking.{no_alias_term}
+use Rattle.relation_semantics.proofs.Trees.{apply_ground}
 use Rattle.relation_semantics.proofs.Erased.{erase_region, erase_plain, no_error_atom, keeps_parts}
 use Rattle.relation_recursion.proofs.Unifying.{erased_sort}
 use Rattle.context_relation.specs.Completing.{AreRelatedAsAsked, AreNeverRelated, ErrorsDisagree, ErrorsAreUnrelated, AgreeingAreRelated, Complete, AskedHolds, IsSoWanted}
@@ -37,7 +38,6 @@ use Rattle.context_relation.proofs.AskedGoals.{agreeing_related}
 use Rattle.context_relation.proofs.Disagreeing.{disagree}
 use Rattle.context_relation.proofs.PlainTerms.{outer_kept, left_good, right_good}
 use Rattle.context_relation.proofs.RegionTerms.{region_or, rule_alias, related_terms_agree, related_iff_agree}
-use Rattle.relation_semantics.proofs.Deferring.{normal_not_left}
 use Rattle.context_relation.proofs.Shapes.{shaped}
 use Rattle.relation_terms.proofs.Paths.{leaf_path}
 use Rattle.relation_terms.proofs.Erasing.{erased_count}
@@ -147,26 +147,42 @@ module _ (set : Settings) (c : Items) where
   flexible_erased_atom (const_param i n) o = o
   flexible_erased_atom x o = o
 
-  flexible_erased : (a : Tree) → IsFlexible a → IsFlexible (erase a)
-  flexible_erased (leaf (variable region_var n)) o = inr refl
-  flexible_erased (leaf (variable k n)) o = tt
-  flexible_erased (leaf (bound (bound_kind region_kind m) d i)) o = inr refl
-  flexible_erased (leaf (bound (bound_kind k m) d i)) o = tt
-  flexible_erased (leaf (placeholder (bound_kind region_kind m) u n)) o = inr refl
-  flexible_erased (leaf (placeholder (bound_kind type_kind m) u n)) o = o
-  flexible_erased (leaf (placeholder (bound_kind const_kind m) u n)) o = o
-  flexible_erased (leaf (atom x)) o = flexible_erased_atom x o
-  flexible_erased (leaf unknown) o = o
-  flexible_erased a o = absurd o
+  integer_erased : (b : Tree) → IsIntegerTerm b → IsIntegerTerm (erase b)
+  integer_erased (leaf (variable int_var n)) h = tt
+  integer_erased (leaf (atom (int_type x))) h = tt
+  integer_erased (leaf (atom (uint_type x))) h = tt
+  integer_erased (leaf (atom x)) h = absurd h
+  integer_erased b h = absurd h
 
-  both_flexible : (a b : Tree) → IsFlexible a ⊎ IsFlexible b → IsFlexible (erase a) ⊎ IsFlexible (erase b)
-  both_flexible a b (inl o) = inl (flexible_erased a o)
-  both_flexible a b (inr o) = inr (flexible_erased b o)
+  float_erased : (b : Tree) → IsFloatTerm b → IsFloatTerm (erase b)
+  float_erased (leaf (variable float_var n)) h = tt
+  float_erased (leaf (atom (float_type x))) h = tt
+  float_erased (leaf (atom x)) h = absurd h
+  float_erased b h = absurd h
+
+  flexible_erased : (a b : Tree) → IsFlexible a b → IsFlexible (erase a) (erase b)
+  flexible_erased (leaf (variable region_var n)) b o = inr refl
+  flexible_erased (leaf (variable int_var n)) b o = λ i. integer_erased b (o i)
+  flexible_erased (leaf (variable float_var n)) b o = λ i. float_erased b (o i)
+  flexible_erased (leaf (variable k n)) b o = λ i. absurd i
+  flexible_erased (leaf (bound (bound_kind region_kind m) d i)) b o = inr refl
+  flexible_erased (leaf (bound (bound_kind k m) d i)) b o = tt
+  flexible_erased (leaf (placeholder (bound_kind region_kind m) u n)) b o = inr refl
+  flexible_erased (leaf (placeholder (bound_kind type_kind m) u n)) b o = o
+  flexible_erased (leaf (placeholder (bound_kind const_kind m) u n)) b o = o
+  flexible_erased (leaf (atom x)) b o = flexible_erased_atom x o
+  flexible_erased (leaf unknown) b o = o
+  flexible_erased a b o = absurd o
+
+  both_flexible : (a b : Tree) → IsFlexible a b ⊎ IsFlexible b a →
+      IsFlexible (erase a) (erase b) ⊎ IsFlexible (erase b) (erase a)
+  both_flexible a b (inl o) = inl (flexible_erased a b o)
+  both_flexible a b (inr o) = inr (flexible_erased b a o)
 
   aside_erased : (v : Variance) (a b : Tree) → HasNoAlias a → HasNoAlias b → IsLeftAside set v a b →
       IsLeftAside set v (erase a) (erase b)
   aside_erased v a b f g (inl e) = inl e
-  aside_erased v a b f g (inr l) = absurd (normal_not_left set a b (no_alias_term a f) (no_alias_term b g) l.0)
+  aside_erased v a b f g (inr l) = absurd (⊎_elim (no_alias_term a f) (no_alias_term b g) (open_alias set a b l.0))
 
   as_leaves : (v : Variance) (a b : Tree) → HasNoAlias a → HasNoAlias b →
       (AreAlike a b → AreFlexible (erase a) (erase b) ⊎ AreAlike (erase a) (erase b)) →
@@ -193,7 +209,7 @@ module _ (set : Settings) (c : Items) where
       go : (leaf_sort l ≡ region_sort) ⊎ (leaf_sort l ≡ region_sort → ⊥) →
           AreFlexible (leaf (erase_leaf l)) (leaf (erase_leaf m)) ⊎ AreAlike (leaf (erase_leaf l)) (leaf (erase_leaf m))
       go (inl s) = inl (
-        inl (flexible_erased (leaf l) (region_flexible (leaf l) s)),
+        inl (flexible_erased (leaf l) (leaf m) (region_flexible (leaf l) (leaf m) s)),
         erased_sort (leaf l) ∙ sorts ∙ sym (erased_sort (leaf m)),
       )
       go (inr n) = inr (ap leaf (outer_kept l n ∙ path ∙ sym (outer_kept m (λ s. n (sorts ∙ s)))))
@@ -269,7 +285,10 @@ module _ {S Key Id Name A : Type 0} (state : S → Context Key Id Name) (old new
       Complete state old new over tree g e v a b result
   completes before g e v a b (Ok goals) needs agrees errors s x y p = agreeing_are_related (solver_settings g (state old).setup)
       (items_of (state old).meaning) (((state old).meaning).param_env e) v s (term_in (state old) over tree a)
-      (term_in (state old) over tree b) x y p agrees
+      (term_in (state old) over tree b) x y p (subst₂ (Agree (solver_settings g (state old).setup)
+      (items_of (state old).meaning) (at v))
+      (apply_ground (resolved (state old).store) (term_in (state old) over tree a) x.1)
+      (apply_ground (resolved (state old).store) (term_in (state old) over tree b) y.1) agrees)
   completes before g e v a b (Err (Unrelated z)) needs agrees errors s x y p = unrelated_before g
       (((state old).meaning).param_env e) v (term_in (state old) over tree a) (term_in (state old) over tree b) z p x.1 y.1
       errors

@@ -43,6 +43,6 @@ module _ {Key Id Name : Type 0} (r : State Key Id Name) (a b : TyKey Key) (are :
       IsTerm type_sort ((r.meaning).ty b) → IsSound r.store → SteppedTys solver_manner r r a b (Ok (Parts a b))
   ordinary_step asked sa sb sound = let t = (r.meaning).ty a in let u = (r.meaning).ty b in
       parts_step r r.meaning r.store r.lawful r.lawful (λ l. l) IsFormed t u (r.meaning).ty a b sound (itself refl)
-      (itself refl) asked (ordinary_formed t are.0 sa (term_within r.store t asked.left_in))
+      (itself refl) (λ j n e. e) asked (ordinary_formed t are.0 sa (term_within r.store t asked.left_in))
       (ordinary_formed u are.1 sb (term_within r.store u asked.right_in))
       (normal_not_left r.kept.settings t u are.0.2 are.1.2)

@@ -11,12 +11,12 @@ use Rattle.relation_semantics.specs.Relation.{Items, at, parts, part_at, plain, 
 use Rattle.relation_semantics.specs.Settings.{Settings, DefersAliases, LeavesOpaque}
 use Rattle.relation_semantics.specs.Steps.{HasNoBinder}
 use Rattle.relation_semantics.specs.Errors.{outer_leaf, outer_head, AreAlike, IsDeferred}
-use Rattle.relation_semantics.specs.Agreeing.{IsFlexible, AreFlexible, IsLeftAside, Agree}
+use Rattle.relation_semantics.specs.Agreeing.{IsFlexible, AreFlexible, IsLeftOpen, IsLeftAside, Agree}
 use Rattle.relation_semantics.specs.Asking.{IsPlainLeaf, IsPlainHead, IsPlainTerm, HasNoAlias, ArePlain, without_aliases, without_binders}
 use Rattle.relation_semantics.proofs.Agreeing.{agree_sorts}
 use Rattle.relation_semantics.proofs.Asking.{no_alias_term}
 use Rattle.relation_semantics.proofs.Erased.{no_error_atom}
-use Rattle.relation_semantics.proofs.Deferring.{opaque_is_alias, beside_is_opaque}
+use Rattle.relation_semantics.proofs.Deferring.{opaque_is_alias}
 use Rattle.context_relation.proofs.RegionTerms.{erased_error, leaf_outer, outer_erased}
 use Rattle.relation_recursion.proofs.Unifying.{erased_sort}
 use Rattle.relation_terms.proofs.Members.{type_only}
@@ -81,13 +81,13 @@ no_opaque : (k : Settings) (a : Tree) → LeavesOpaque k → Suits k a → IsAli
 no_opaque k a l (inl n) i = no_alias_term a n i
 no_opaque k a l (inr b) i = false≢true (sym l.0 ∙ b.1.0)
 
-left_erased : (k : Settings) (a b : Tree) → Suits k a → Suits k b → IsDeferred k (erase a) (erase b) → IsDeferred k a b
+left_erased : (k : Settings) (a b : Tree) → Suits k a → Suits k b → IsLeftOpen k (erase a) (erase b) → IsDeferred k a b
 left_erased k a b f g (inl (l, inl o)) = inl (l, inl (alias_erased a o))
 left_erased k a b f g (inl (l, inr o)) = inl (l, inr (alias_erased b o))
 left_erased k a b f g (inr (l, inl o)) =
-    absurd (no_opaque k a l f (alias_erased a (opaque_is_alias (erase a) (beside_is_opaque (erase a) (erase b) o))))
+    absurd (no_opaque k a l f (alias_erased a (opaque_is_alias (erase a) o)))
 left_erased k a b f g (inr (l, inr o)) =
-    absurd (no_opaque k b l g (alias_erased b (opaque_is_alias (erase b) (beside_is_opaque (erase b) (erase a) o))))
+    absurd (no_opaque k b l g (alias_erased b (opaque_is_alias (erase b) o)))
 
 -- An alias is left to a goal.
 pub alias_left : (k : Settings) (a b : Tree) → Suits k a → IsAlias a → IsDeferred k a b
@@ -109,15 +109,15 @@ kept_all value_type ts n = absurd (n refl)
 kept_all h ts n = refl
 
 -- Leaves of other sorts than regions agree with none but those that are alike.
-not_flexible : (l : Leaf) → IsPlainLeaf l → leaf_sort l ≢ region_sort → IsFlexible (leaf (erase_leaf l)) → ⊥
-not_flexible (variable k n) f o h = o f
-not_flexible (bound k d i) f o h = o f
-not_flexible (placeholder (bound_kind region_kind m) u n) f o h = o refl
-not_flexible (placeholder (bound_kind type_kind m) u n) f o h = o h
-not_flexible (placeholder (bound_kind const_kind m) u n) f o h = o h
-not_flexible (atom x) f o (inl e) = no_error_atom x (erased_error x e) f
-not_flexible (atom x) f o (inr s) = o (sym (erased_atom x) ∙ s)
-not_flexible unknown f o h = f
+not_flexible : (l : Leaf) (u : Tree) → IsPlainLeaf l → leaf_sort l ≢ region_sort → IsFlexible (leaf (erase_leaf l)) u → ⊥
+not_flexible (variable k n) u f o h = o f
+not_flexible (bound k d i) u f o h = o f
+not_flexible (placeholder (bound_kind region_kind m) w n) u f o h = o refl
+not_flexible (placeholder (bound_kind type_kind m) w n) u f o h = o h
+not_flexible (placeholder (bound_kind const_kind m) w n) u f o h = o h
+not_flexible (atom x) u f o (inl e) = no_error_atom x (erased_error x e) f
+not_flexible (atom x) u f o (inr s) = o (sym (erased_atom x) ∙ s)
+not_flexible unknown u f o h = f
 
 pub outer_kept : (l : Leaf) → leaf_sort l ≢ region_sort → outer_leaf (erase_leaf l) ≡ outer_leaf l
 outer_kept l n = outer_erased l ∙ leaf_outer l n
@@ -205,13 +205,13 @@ module _ (set : Settings) (c : Items) where
   pub leaves_alike : (v : Variance) (l m : Leaf) → Met v (leaf l) (leaf m) → leaf_sort l ≢ region_sort →
       leaf_sort m ≢ region_sort → Alike v (leaf l) (leaf m) → outer_leaf l ≡ outer_leaf m
   leaves_alike v l m f p q (inl e) = absurd (aside_never v (leaf l) (leaf m) f e)
-  leaves_alike v l m f p q (inr (inl (inl o, s))) = absurd (not_flexible l f.left.0 p o)
-  leaves_alike v l m f p q (inr (inl (inr o, s))) = absurd (not_flexible m f.right.0 q o)
+  leaves_alike v l m f p q (inr (inl (inl o, s))) = absurd (not_flexible l (erase (leaf m)) f.left.0 p o)
+  leaves_alike v l m f p q (inr (inl (inr o, s))) = absurd (not_flexible m (erase (leaf l)) f.right.0 q o)
   leaves_alike v l m f p q (inr (inr e)) = sym (outer_kept l p) ∙ leaf_path e ∙ outer_kept m q
 
   -- A leaf of another sort than a region's agrees with no form.
-  apart : {X : Type 0} (v : Variance) (a b : Tree) → Met v a b → (IsFlexible (erase a) → ⊥) →
-      (IsFlexible (erase b) → ⊥) → (AreAlike (erase a) (erase b) → ⊥) →
+  apart : {X : Type 0} (v : Variance) (a b : Tree) → Met v a b → (IsFlexible (erase a) (erase b) → ⊥) →
+      (IsFlexible (erase b) (erase a) → ⊥) → (AreAlike (erase a) (erase b) → ⊥) →
       IsLeftAside set v (erase a) (erase b) ⊎ (AreFlexible (erase a) (erase b) ⊎ AreAlike (erase a) (erase b)) → X
   apart v a b f p q n (inl e) = absurd (aside_never v a b f e)
   apart v a b f p q n (inr (inl (inl o, s))) = absurd (p o)
@@ -220,11 +220,11 @@ module _ (set : Settings) (c : Items) where
 
   pub leaf_form : {X : Type 0} (v : Variance) (l : Leaf) (k : Head) (us : Tree) → Met v (leaf l) (node k us) →
       leaf_sort l ≢ region_sort → Alike v (leaf l) (node k us) → X
-  leaf_form v l k us f p r = apart v (leaf l) (node k us) f (not_flexible l f.left.0 p) (λ o. o) (λ e. cc) r
+  leaf_form v l k us f p r = apart v (leaf l) (node k us) f (not_flexible l (erase (node k us)) f.left.0 p) (λ o. o) (λ e. cc) r
 
   pub form_leaf : {X : Type 0} (v : Variance) (h : Head) (ts : Tree) (m : Leaf) → Met v (node h ts) (leaf m) →
       leaf_sort m ≢ region_sort → Alike v (node h ts) (leaf m) → X
-  form_leaf v h ts m f q r = apart v (node h ts) (leaf m) f (λ o. o) (not_flexible m f.right.0 q) (λ e. cc) r
+  form_leaf v h ts m f q r = apart v (node h ts) (leaf m) f (λ o. o) (not_flexible m (erase (node h ts)) f.right.0 q) (λ e. cc) r
 
   -- Two types that agree are alike in their outermost forms.
   pub types_alike : (v : Variance) (a b : Tree) → Met v a b → IsTerm type_sort a → IsTerm type_sort b → Alike v a b →

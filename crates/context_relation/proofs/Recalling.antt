@@ -26,7 +26,8 @@ use Rattle.relation_semantics.specs.Contexts.{Context}
 use Rattle.relation_semantics.specs.Goals.{goal_of}
 use Rattle.relation_semantics.specs.Parts.{IsFormed}
 use Rattle.relation_semantics.specs.Steps.{Taints}
-use Rattle.relation_semantics.specs.Lawful.{State, Pair, Manners, Stepped, Shown, HasRelated, RemembersRelated, RemembersAtMost}
+use Rattle.relation_semantics.specs.Relation.{at}
+use Rattle.relation_semantics.specs.Lawful.{State, Pair, Manners, Stepped, Shown, HasRelated, RemembersRelated, RemembersAtMost, AgreesIn, MeansPair}
 use Rattle.relation_semantics.proofs.Answering.{same_environment, same_settings}
 use Rattle.relation_semantics.proofs.Passing.{shown_by}
 use Rattle.relation_semantics.proofs.Remembering.{hit_is_step, related_as, were_related_more}
@@ -78,6 +79,8 @@ module _ {Key Id Name : Type 0} (M : Manners) (r : State Key Id Name) (a b : TyK
       ((r.meaning).ty b) (r.meaning).ty (Ok (Done a))
   met_step all z = let h = met_related all z in
       hit_is_step M IsFormed r (r.meaning).ty a ((r.meaning).ty b) h.left_known h.shown
+      (λ st began. subst (λ v. AgreesIn r st (at v) ((r.meaning).ty a) ((r.meaning).ty b)) z.variance
+      (subst₂ (AgreesIn r st (at (z.pair).0)) z.left z.right (began.agree z.pair z.is_in).agree))
 
   -- A pair of known types that were related, of which no goal is asked alone.
   pub noted_pair : AskedTerms M None (λ m. m.ty) r a b → ShownTys M r a b → TysAskNone r a b →
@@ -116,6 +119,17 @@ module _ {Key Id Name : Type 0} (r q : State Key Id Name) (a b : TyKey Key) wher
       seen g asks = subst₂ (λ z w. AsksAlone r.kept.settings r.ambient z w g) x y
           (subst₂ (λ k v. AsksAlone k v ((q.meaning).ty a) ((q.meaning).ty b) g) (same_settings (step.passes).kept)
           (step.passes).ambient asks)
+
+  -- Its keys mean what they did.
+  pub answered_means : (t : TyKey Key) → AskedTerms solver_manner None (λ m. m.ty) r a b →
+      SteppedTys solver_manner r q a b (Ok (Done t)) → MeansPair q (q.ambient, a, b) ((r.meaning).ty a) ((r.meaning).ty b)
+  answered_means t asked step = (
+    refl,
+    ((step.passes).extends).ty a asked.left_known,
+    ((step.passes).extends).ty b asked.right_known,
+    asked.left_known,
+    asked.right_known,
+  )
 
   -- Where there is no answer nothing is remembered.
   pub unanswered : (step : Step (TyKey Key)) → ((t : TyKey Key) → step ≡ Done t → ⊥) → q.remembered ≡ r.remembered →

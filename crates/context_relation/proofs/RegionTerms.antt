@@ -1,5 +1,5 @@
 -- Terms with binders of regions alone, where all regions outlive each other.
-use Rattle.std.proofs.Common.{◌≡◌, ◌⊎◌, ℕ, zero, suc, refl, sym, ap, ap₂, ◌∙◌, inl, inr, subst, subst₂, List, [], ◌∷◌, map, None, nat_eq, cond, Bool, true, false, ◌+◌, ◌≤◌, arith}
+use Rattle.std.proofs.Common.{◌≡◌, ◌⊎◌, ℕ, zero, suc, refl, sym, ap, ap₂, ◌∙◌, inl, inr, ⊎_elim, subst, subst₂, List, [], ◌∷◌, map, None, nat_eq, cond, Bool, true, false, ◌+◌, ◌≤◌, arith}
 use Rattle.term_enums.specs.declared.Variance.{Variance}
 use Rattle.term_enums.specs.declared.Variance.TheVariants.{Covariant, Contravariant, Invariant, Bivariant}
 use Rattle.relation_terms.specs.Heads.{Sort, region_kind, type_kind, const_kind, BoundKind, bound_kind, bound_sort, region_var, region_sort, term_of, one, leaf_sort, Leaf, Atom, atom_sort, type_param, const_param, static_region, early_region, atom, variable, bound, placeholder, unknown, Head, value_type, alias, alias_term, unevaluated, host_effect, subtype, region_outlives, type_outlives, projection, const_has_type, well_formed, const_evaluatable, coerce, normalizes_to, alias_relate, environment}
@@ -10,12 +10,11 @@ use Rattle.relation_semantics.specs.FirstOrder.{IsFirstOrderAtom}
 use Rattle.relation_semantics.specs.Stores.{IsNamable}
 use Rattle.relation_semantics.specs.Asking.{BindsRegions}
 use Rattle.context_relation.specs.RegionTerms.{IsRegionTermHead, IsRegionTermLeaf, IsRegionTerm, RelatedTermsAgree, RelatedIffAgree}
-use Rattle.relation_semantics.specs.Agreeing.{IsFlexible, AreFlexible, IsLeftAside, Agree}
+use Rattle.relation_semantics.specs.Agreeing.{IsFlexible, AreFlexible, IsLeftOpen, IsLeftAside, Agree}
 use Rattle.relation_semantics.specs.Settings.{Settings}
-use Rattle.relation_semantics.specs.Errors.{outer_leaf, AreAlike, IsDeferred}
+use Rattle.relation_semantics.specs.Errors.{outer_leaf, AreAlike}
 use Rattle.relation_recursion.proofs.Unifying.{kind_erased, kind_kept, erased_plain}
-use Rattle.relation_semantics.proofs.Deferring.{opaque_is_alias, beside_is_opaque}
-use Rattle.relation_semantics.proofs.Agreeing.{agree_anything, agree_same}
+use Rattle.relation_semantics.proofs.Agreeing.{agree_anything, agree_same, open_alias}
 use Rattle.relation_semantics.proofs.Erased.{erase_region, erase_plain, no_error_atom}
 use Rattle.relation_semantics.proofs.Related.{no_region_head}
 use Rattle.relation_semantics.proofs.Standing.{term_sort_of}
@@ -345,13 +344,8 @@ erased_no_alias (bind ks t) f i = i
 erased_no_alias nil f i = i
 erased_no_alias (cons t ts) f i = i
 
-erased_not_left : (k : Settings) (a b : Tree) → IsRegionTerm a → IsRegionTerm b → IsDeferred k (erase a) (erase b) → ⊥
-erased_not_left k a b f g (inl (l, inl o)) = erased_no_alias a f o
-erased_not_left k a b f g (inl (l, inr o)) = erased_no_alias b g o
-erased_not_left k a b f g (inr (l, inl o)) =
-    erased_no_alias a f (opaque_is_alias (erase a) (beside_is_opaque (erase a) (erase b) o))
-erased_not_left k a b f g (inr (l, inr o)) =
-    erased_no_alias b g (opaque_is_alias (erase b) (beside_is_opaque (erase b) (erase a) o))
+erased_not_left : (k : Settings) (a b : Tree) → IsRegionTerm a → IsRegionTerm b → IsLeftOpen k (erase a) (erase b) → ⊥
+erased_not_left k a b f g l = ⊎_elim (erased_no_alias a f) (erased_no_alias b g) (open_alias k (erase a) (erase b) l)
 
 set_aside : {c : Items} {w : Interpretation} {e : Tree} {v : Variance} (k : Settings) (a b : Tree) → IsRegionTerm a →
     IsRegionTerm b → IsLeftAside k v (erase a) (erase b) → Rel c w e (at v) a b
@@ -374,18 +368,18 @@ erased_open_atom : (x : Atom) → IsFirstOrderAtom x → IsErrorAtom (erase_atom
 erased_open_atom x r (inl e) = absurd (no_error_atom x (erased_error x e) r)
 erased_open_atom x r (inr s) = sym (erased_atom x) ∙ s
 
-erased_open : (l : Leaf) → IsRegionTermLeaf l → IsFlexible (leaf (erase_leaf l)) → leaf_sort l ≡ region_sort
-erased_open (variable k n) r o = absurd r
-erased_open (bound k d i) r o = r
-erased_open (placeholder (bound_kind region_kind m) u n) r o = refl
-erased_open (placeholder (bound_kind type_kind m) u n) r o = o
-erased_open (placeholder (bound_kind const_kind m) u n) r o = o
-erased_open (atom x) r o = erased_open_atom x r o
-erased_open unknown r o = absurd r
+erased_open : (l : Leaf) (b : Tree) → IsRegionTermLeaf l → IsFlexible (leaf (erase_leaf l)) b → leaf_sort l ≡ region_sort
+erased_open (variable k n) b r o = absurd r
+erased_open (bound k d i) b r o = r
+erased_open (placeholder (bound_kind region_kind m) u n) b r o = refl
+erased_open (placeholder (bound_kind type_kind m) u n) b r o = o
+erased_open (placeholder (bound_kind const_kind m) u n) b r o = o
+erased_open (atom x) b r o = erased_open_atom x r o
+erased_open unknown b r o = absurd r
 
 open_regions : (l m : Leaf) → IsRegionTermLeaf l → IsRegionTermLeaf m → AreFlexible (leaf (erase_leaf l)) (leaf (erase_leaf m)) → (leaf_sort l ≡ region_sort) × (leaf_sort m ≡ region_sort)
-open_regions l m f g (inl o, s) = let p = erased_open l f o in (p, sym (erase_sort m) ∙ sym s ∙ erase_sort l ∙ p)
-open_regions l m f g (inr o, s) = let q = erased_open m g o in (sym (erase_sort l) ∙ s ∙ erase_sort m ∙ q, q)
+open_regions l m f g (inl o, s) = let p = erased_open l (leaf (erase_leaf m)) f o in (p, sym (erase_sort m) ∙ sym s ∙ erase_sort l ∙ p)
+open_regions l m f g (inr o, s) = let q = erased_open m (leaf (erase_leaf l)) g o in (sym (erase_sort l) ∙ s ∙ erase_sort m ∙ q, q)
 
 plain_erased : (x : Atom) → plain_atom (erase_atom x) ≡ erase_atom x
 plain_erased (early_region i n) = refl
@@ -406,17 +400,17 @@ outer_erased unknown = refl
 alike_erased : (l m : Leaf) → AreAlike (leaf (erase_leaf l)) (leaf (erase_leaf m)) → erase_leaf l ≡ erase_leaf m
 alike_erased l m e = let z : outer_leaf (erase_leaf l) ≡ outer_leaf (erase_leaf m) = cc in sym (outer_erased l) ∙ z ∙ outer_erased m
 
-apart_leaf : (l : Leaf) (b : Tree) → IsRegionTermLeaf l → (sort_of b ≡ region_sort → ⊥) → (IsFlexible b → ⊥) → (AreAlike (leaf (erase_leaf l)) b → ⊥) → AreFlexible (leaf (erase_leaf l)) b ⊎ AreAlike (leaf (erase_leaf l)) b → ⊥
-apart_leaf l b r n m k (inl (inl o, s)) = n (sym s ∙ erase_sort l ∙ erased_open l r o)
+apart_leaf : (l : Leaf) (b : Tree) → IsRegionTermLeaf l → (sort_of b ≡ region_sort → ⊥) → (IsFlexible b (leaf (erase_leaf l)) → ⊥) → (AreAlike (leaf (erase_leaf l)) b → ⊥) → AreFlexible (leaf (erase_leaf l)) b ⊎ AreAlike (leaf (erase_leaf l)) b → ⊥
+apart_leaf l b r n m k (inl (inl o, s)) = n (sym s ∙ erase_sort l ∙ erased_open l b r o)
 apart_leaf l b r n m k (inl (inr o, s)) = m o
 apart_leaf l b r n m k (inr e) = k e
 
-apart_leaf_back : (l : Leaf) (a : Tree) → IsRegionTermLeaf l → (sort_of a ≡ region_sort → ⊥) → (IsFlexible a → ⊥) → (AreAlike a (leaf (erase_leaf l)) → ⊥) → AreFlexible a (leaf (erase_leaf l)) ⊎ AreAlike a (leaf (erase_leaf l)) → ⊥
+apart_leaf_back : (l : Leaf) (a : Tree) → IsRegionTermLeaf l → (sort_of a ≡ region_sort → ⊥) → (IsFlexible a (leaf (erase_leaf l)) → ⊥) → (AreAlike a (leaf (erase_leaf l)) → ⊥) → AreFlexible a (leaf (erase_leaf l)) ⊎ AreAlike a (leaf (erase_leaf l)) → ⊥
 apart_leaf_back l a r n m k (inl (inl o, s)) = m o
-apart_leaf_back l a r n m k (inl (inr o, s)) = n (s ∙ erase_sort l ∙ erased_open l r o)
+apart_leaf_back l a r n m k (inl (inr o, s)) = n (s ∙ erase_sort l ∙ erased_open l a r o)
 apart_leaf_back l a r n m k (inr e) = k e
 
-apart_forms : (a b : Tree) → (IsFlexible a → ⊥) → (IsFlexible b → ⊥) → (AreAlike a b → ⊥) → AreFlexible a b ⊎ AreAlike a b → ⊥
+apart_forms : (a b : Tree) → (IsFlexible a b → ⊥) → (IsFlexible b a → ⊥) → (AreAlike a b → ⊥) → AreFlexible a b ⊎ AreAlike a b → ⊥
 apart_forms a b n m k (inl (inl o, s)) = n o
 apart_forms a b n m k (inl (inr o, s)) = m o
 apart_forms a b n m k (inr e) = k e

@@ -45,10 +45,11 @@ use Rattle.relation_semantics.specs.Outcomes.{Outcome}
 use Rattle.relation_semantics.specs.Measures.{Goes}
 use Rattle.relation_semantics.specs.Parts.{IsFormedConst}
 use Rattle.relation_semantics.specs.Constraints.{constraint_at, constraint_of, asked_constraints}
-use Rattle.relation_semantics.specs.Lawful.{Passes, Related, Stepped, items_of, Kept, Pair, State, WereRelated}
+use Rattle.relation_semantics.specs.Lawful.{Passes, Related, Stepped, items_of, Kept, Pair, State, WereRelated, MayBegin}
 use Rattle.relation_semantics.proofs.Standing.{term_sort_of}
-use Rattle.relation_semantics.proofs.Agreeing.{agree_regions}
-use Rattle.relation_semantics.specs.Agreeing.{Agree}
+use Rattle.relation_semantics.proofs.AgreeingBefore.{regions_agreed}
+use Rattle.relation_semantics.proofs.Beginning.{begins_by, begins_there}
+use Rattle.relation_semantics.specs.Agreeing.{AgreeIn}
 use Rattle.relation_semantics.specs.Lawful.{Verdict, WithMeaning, RegisteredIn, RecordsOf}
 use Rattle.relation_semantics.proofs.Going.{goes_nowhere, goes_within, later_itself}
 use Rattle.relation_semantics.proofs.Keeping.{one_itself, one_same, unified_itself, unified_same}
@@ -213,9 +214,12 @@ module _ {Key Id Name : Type 0} {j j' : Held Key} (held : j' ≡ j) (gs : List (
             outcome = outcome;
             answer = may_itself solver_manner (solving j' gs m now K v e) v (m.region a);
             known = sure;
-            agrees = λ k. agree_regions (solver_settings j.structurally_relate_aliases j.setup) (items_of m) v
-                (m.region a) (m.region b)
-                (term_sort_of region_var (m.region a) left.0) (term_sort_of region_var (m.region b) right.0);
+            agrees = λ k st began. (
+              regions_agreed st began.sound (solver_settings j.structurally_relate_aliases j.setup) (items_of m) v
+                  (m.region a) (m.region b) left_sort right_sort,
+              begins_by (solving j gs m was L v e) (solving j' gs m now K v e) (stays_same m) goes.later
+                  (ap (λ i. kept_in i (m.param_env e)) held) (ap (λ i. i.memory) held) st began,
+            );
           };
           exact = λ k is pair.
               let z = regions_exactly was now (m.region a) (m.region b) left right goes.later added.same_entries
@@ -444,7 +448,8 @@ module _ {Key Id Name X : Type 0} (j i : Held Key) (gs hs : List (KeyedGoal Key 
         outcome = o.outcome;
         answer = record { related = (o.answer).related };
         known = o.known;
-        agrees = o.agrees;
+        agrees = λ k st began. let z = o.agrees k st began in
+            (z.0, subst (λ s. MayBegin s n now i.memory st) same_set z.1);
       }
       verdict (Err (Unrelated g)) o = (
         o.0,
@@ -520,7 +525,14 @@ module _ {Key Id Name X : Type 0} (j i : Held Key) (gs hs : List (KeyedGoal Key 
         outcome = o.outcome;
         answer = record { related = (o.answer).related };
         known = o.known;
-        agrees = o.agrees;
+        agrees = λ k st began. let z = o.agrees k st began in (
+          z.0,
+          record {
+            sound = (z.1).sound;
+            later = (z.1).later;
+            agree = λ p held. let l : held.0 < 0 = held.1 in absurd (omega (arith, l));
+          },
+        );
       }
       verdict (Err (Unrelated g)) o = o
       verdict (Err Budget) o = o
@@ -586,10 +598,11 @@ module _ {Key Id Name X : Type 0} {j j' : Held Key} (m n : Meaning Key Id Name) 
   keeps_equal t h = λ w s sat one. let z = ((h.verdict).outcome).keeps w s sat one in
       (z.0, z.1, (z.2.0, subst (All (MakesOneTree z.0)) (sym (h.passes).lengthens) z.2.1))
 
-  pub relates_agreeing : (t : X) →
+  -- They agree by what there was, where nothing was remembered.
+  pub relates_agreeing : (t : X) → j.memory ≡ [] → IsSound was →
       Related solver_manner (solving j [] m was L v e) (solving j' hs n now K v e) v a b tree (Ok t) →
-      Agree (solver_settings j.structurally_relate_aliases j.setup) (items_of m) (at v) a b
-  relates_agreeing t h = (h.verdict).agrees tt
+      AgreeIn (solver_settings j.structurally_relate_aliases j.setup) (items_of m) was (at v) a b
+  relates_agreeing t none sound h = ((h.verdict).agrees tt was (begins_there sound none)).0
 
   -- Of two bare terms just what they ask for was added, where nothing was remembered.
   pub adds_just_asked : (t : X) → j.memory ≡ [] →

@@ -1,5 +1,5 @@
 -- Relating two binders in a context, round by round.
-use Rattle.std.proofs.Common.{◌≡◌, ◌≢◌, ◌⊎◌, ℕ, ◌<◌, refl, sym, ◌∙◌, arith, inl, inr, subst, subst₂, List, []}
+use Rattle.std.proofs.Common.{◌≡◌, ◌≢◌, ◌⊎◌, ℕ, ◌<◌, refl, sym, ap₂, ◌∙◌, arith, inl, inr, subst, subst₂, List, []}
 use Rattle.std.proofs.Common.{IsTrue, Bool, true, false, ◌||◌, Option, Some, None, Result, Ok, Err}
 use Rattle.std.proofs.lemmas.Bool.{false≢true, or_parts}
 use Rattle.term_enums.specs.declared.Variance.{Variance}
@@ -10,7 +10,7 @@ use Rattle.relation_terms.specs.declared.terms.keys.ParamEnvKey.{ParamEnvKey}
 use Rattle.relation_terms.specs.declared.terms.keys.PredicateKey.{PredicateKey}
 use Rattle.relation_terms.specs.Heads.{BoundKind}
 use Rattle.relation_terms.specs.Trees.{Tree, bind, known}
-use Rattle.relation_terms.specs.Meaning.{Meaning, under}
+use Rattle.relation_terms.specs.Meaning.{Meaning, Extends, under}
 use Rattle.relation_folds.specs.declared.error.RelateFault.{RelateFault}
 use Rattle.relation_folds.specs.declared.error.RelateFault.TheVariants.{Memory}
 use Rattle.relation_folds.specs.Visits.{bound_var_escapes}
@@ -27,8 +27,9 @@ use Rattle.relation_semantics.specs.ContextCalls.{Grows}
 use Rattle.relation_semantics.specs.Binders.{OpensFrom, MakesFirst}
 use Rattle.relation_steps.specs.Rounds.{OneRound, RoundSteps, one_round, first_round, second_round, RoundLeads}
 use Rattle.relation_steps.specs.Rounds.{RoundVerdict, Opened}
-use Rattle.relation_combining.specs.Solving.{KnowsGoals, solving_through, solver_manner}
-use Rattle.relation_semantics.proofs.Going.{goes_nowhere, goes_within}
+use Rattle.relation_combining.specs.Solving.{KnowsGoals, kept_in, solving_through, solver_manner}
+use Rattle.relation_semantics.proofs.Beginning.{begins_by}
+use Rattle.relation_semantics.proofs.Going.{goes_nowhere, goes_within, later_through}
 use Rattle.relation_semantics.proofs.Keeping.{opening_keeps}
 use Rattle.relation_semantics.proofs.Opened.{none_escapes, within_none}
 use Rattle.relation_semantics.proofs.Opening.{covariant_step, contravariant_step, unused_step}
@@ -120,7 +121,8 @@ module _ {Key Id Name : Type 0} (aliases : StructurallyRelateAliases) (j : ℕ) 
       (built_opened c.store d.store ks a b changes taint (each_unbound first.2) (first_writes ks first) has))
 
   -- Bodies that were opened.
-  module _ (round : ℕ) (ks ls : List BoundKind) (t u x y : Tree)
+  module _ (grown : Extends c.meaning d.meaning) (kept : after.kept ≡ before.kept) (round : ℕ)
+      (ks ls : List BoundKind) (t u x y : Tree)
       (uses : StaysWithin 0 t × StaysWithin 0 u → ⊥) (left : IsTrue (known x)) (right : IsTrue (known y))
       (binds : AreBoundAs ks 0 t) (binds_too : AreBoundAs ls 0 u) where
     second_leads : BothOpened c.store d.store ls ks u t y x → round ≡ 0 → (v ≡ Covariant) ⊎ (v ≡ Invariant) →
@@ -137,8 +139,12 @@ module _ {Key Id Name : Type 0} (aliases : StructurallyRelateAliases) (j : ℕ) 
       };
       errors = λ m set i st f later sound o.
           bodies_error m set i st v f ks ls t u x y both.instantiated_for both.entered_for o;
-      agrees = λ set i o.
-          bodies_agree set i v ks ls t u x y both.instantiated_for both.entered_for binds binds_too o;
+      agrees = λ st began. (
+        λ z. bodies_agree before.kept.settings (items_of c.meaning) v st began.sound
+            (later_through began.later (both.goes).later) ks ls t u x y both.instantiated_for both.entered_for binds
+            binds_too z,
+        begins_by before after grown (both.goes).later kept refl st began,
+      );
       built = bodies_built c.store ks ls t u x y both.instantiated_for both.entered_for;
       same_budget = both.same_budget;
       smaller = let h = both.smaller in omega (arith, h);
@@ -167,8 +173,12 @@ module _ {Key Id Name : Type 0} (aliases : StructurallyRelateAliases) (j : ℕ) 
       };
       errors = λ m set i st f later sound o.
           bodies_error m set i st v f ks ls t u x y both.entered_for both.instantiated_for o;
-      agrees = λ set i o.
-          bodies_agree set i v ks ls t u x y both.entered_for both.instantiated_for binds binds_too o;
+      agrees = λ st began. (
+        λ z. bodies_agree before.kept.settings (items_of c.meaning) v st began.sound
+            (later_through began.later (both.goes).later) ks ls t u x y both.entered_for both.instantiated_for binds
+            binds_too z,
+        begins_by before after grown (both.goes).later kept refl st began,
+      );
       built = bodies_built c.store ks ls t u x y both.entered_for both.instantiated_for;
       same_budget = both.same_budget;
       smaller = both.smaller;
@@ -187,6 +197,9 @@ module _ {Key Id Name : Type 0} (aliases : StructurallyRelateAliases) (j : ℕ) 
   module _ {T : Type 0} (env : KnowsGoals c.meaning e gs) (sound : IsSound c.store) (grows : Grows c d) (round : ℕ)
       (t u : Tree) (tree : Meaning Key Id Name → T → Tree) (x y : T)
       (some : (bound_var_escapes t || bound_var_escapes u) ≡ true) where
+    same_kept : after.kept ≡ before.kept
+    same_kept = ap₂ kept_in (held_grows aliases j ps c d grows) ((grows.extends).param_env e env.0)
+
     pub opens_second : (o p : Option (List BoundKind)) → Asked solver_manner before v (under o t) (under p u) →
         IsTrue (known (tree d.meaning y)) × IsTrue (known (tree d.meaning x)) ×
         OpensFrom c d (under p u) (under o t) (tree d.meaning y) (tree d.meaning x) → round ≡ 0 →
@@ -197,7 +210,7 @@ module _ {Key Id Name : Type 0} (aliases : StructurallyRelateAliases) (j : ℕ) 
         let both = both_opened c.store from.0 d.store sound ls ks u t (tree d.meaning y) (tree d.meaning x) from.1
         from.2 k.right_in k.left_in k.right_taken.1 k.left_taken.1 in
         opened env grows both.goes round (bind ks t) (bind ls u) (tree d.meaning) (Ok (Some (x, y)))
-        (second_leads round ks ls t u (tree d.meaning x) (tree d.meaning y) (one_uses t u some) h.1 h.0
+        (second_leads grows.extends same_kept round ks ls t u (tree d.meaning x) (tree d.meaning y) (one_uses t u some) h.1 h.0
         k.left_taken.1.0 k.right_taken.1.0 both zero_round at_variance) (both.built (bind ks t) (bind ls u) (λ k h i. h.0))
     opens_second (Some ks) None k h zero_round at_variance = absurd (false≢true k.right_known)
     opens_second None p k h zero_round at_variance = absurd (false≢true k.left_known)
@@ -212,7 +225,7 @@ module _ {Key Id Name : Type 0} (aliases : StructurallyRelateAliases) (j : ℕ) 
         let both = both_opened c.store from.0 d.store sound ks ls t u (tree d.meaning x) (tree d.meaning y) from.1
         from.2 k.left_in k.right_in k.left_taken.1 k.right_taken.1 in
         opened env grows both.goes round (bind ks t) (bind ls u) (tree d.meaning) (Ok (Some (x, y)))
-        (first_leads round ks ls t u (tree d.meaning x) (tree d.meaning y) (one_uses t u some) h.0 h.1
+        (first_leads grows.extends same_kept round ks ls t u (tree d.meaning x) (tree d.meaning y) (one_uses t u some) h.0 h.1
         k.left_taken.1.0 k.right_taken.1.0 both at_variance) (both.built (bind ks t) (bind ls u) (λ k h i. i.0))
     opens_first (Some ks) None k h at_variance = absurd (false≢true k.right_known)
     opens_first None p k h at_variance = absurd (false≢true k.left_known)
@@ -251,10 +264,13 @@ module _ {Key Id Name T : Type 0} (aliases : StructurallyRelateAliases) (j : ℕ
           right_taken = all_taken v u k.right_taken.1.1;
         };
         errors = λ m set i st f later sound o.
-            bodies_error m set i st v f ks ls t u t u (unused_stand_ins ks t w.0) (unused_stand_ins ls u w.1) o;
-        agrees = λ set i o. bodies_agree set i v ks ls t u t u (unused_stand_ins ks t w.0) (unused_stand_ins ls u w.1)
-            k.left_taken.1.0 k.right_taken.1.0 o;
-        built = bodies_built c.store ks ls t u t u (unused_stand_ins ks t w.0) (unused_stand_ins ls u w.1);
+            bodies_error m set i st v f ks ls t u t u {now = c.store} (unused_stand_ins ks t w.0) (unused_stand_ins ls u w.1) o;
+        agrees = λ st began. (
+          λ z. bodies_agree there.kept.settings (items_of c.meaning) v st began.sound began.later ks ls t u t u
+              (unused_stand_ins ks t w.0) (unused_stand_ins ls u w.1) k.left_taken.1.0 k.right_taken.1.0 z,
+          began,
+        );
+        built = bodies_built c.store ks ls t u t u {now = c.store} (unused_stand_ins ks t w.0) (unused_stand_ins ls u w.1);
         same_budget = refl;
         smaller = bodies_smaller c.store ks ls t u;
       })) (built_itself c.store (bind ks t) (bind ls u))
@@ -266,7 +282,7 @@ module _ {Key Id Name T : Type 0} (aliases : StructurallyRelateAliases) (j : ℕ
       (v ≢ Invariant) ⊎ ((bound_var_escapes t || bound_var_escapes u) ≡ false) →
       Opened solver_manner there there round (under o t) (under p u) tree (Ok None)
   no_more (Some ks) (Some ls) k is_last h = opened aliases j ps gs c c v e env grows (goes_nowhere 0 c.store) round (bind ks t)
-      (bind ls u) tree (Ok None) (is_last, go h, refl, refl) (built_itself c.store (bind ks t) (bind ls u))
+      (bind ls u) tree (Ok None) (is_last, go h, refl, refl, refl) (built_itself c.store (bind ks t) (bind ls u))
     where
       go : (v ≢ Invariant) ⊎ ((bound_var_escapes t || bound_var_escapes u) ≡ false) →
           OneRound v (bind ks t) (bind ls u)

@@ -22,8 +22,9 @@ use Rattle.relation_semantics.specs.Alphabets.{IsPredicateOf}
 use Rattle.relation_semantics.specs.Lawful.{State, Pair, Stepped, MayAnswer, items_in}
 use Rattle.relation_semantics.specs.Outcomes.{Outcome}
 use Rattle.relation_semantics.specs.Parts.{IsFormed}
-use Rattle.relation_semantics.specs.Relation.{Interpretation, Rel, at, sort_of}
-use Rattle.relation_semantics.proofs.Agreeing.{agree_root}
+use Rattle.relation_semantics.specs.Relation.{Interpretation, Rel, at}
+use Rattle.relation_semantics.specs.Stores.{MayStandFor}
+use Rattle.relation_semantics.proofs.AgreeingBefore.{root_agreed}
 use Rattle.relation_semantics.proofs.Answering.{may_itself}
 use Rattle.relation_semantics.proofs.Going.{later_itself}
 use Rattle.relation_semantics.proofs.Growing.{All_back}
@@ -99,7 +100,8 @@ module _ {Key Id Name A E : Type 0} {r q : State Key Id Name} {x : A} (i k : ℕ
   subtype_step tree t answer sure = goal_step IsFormed a b tree p h in_order outcome t
       (subst (MayAnswer solver_manner q r.ambient a) (sym answer) (may_itself solver_manner q r.ambient a))
       (subst (λ z. IsTrue (known z)) (sym answer) sure)
-      (agree_root r.kept.settings (items_in r) r.ambient type_var i a b a_is (ap sort_of b_is))
+      (λ st began. root_agreed st r.store began.sound began.later r.kept.settings (items_in r) r.ambient type_var i a b
+      i_open.1 a_is (subst (MayStandFor type_var) (sym b_is) tt))
       (λ is pair. absurd (subst IsDirected is (subtype_directed r.ambient a b p asks)))
       (λ alphabet ha hb. subtype_asked (λ v p. IsPredicateOf alphabet p) a b (ha, (hb, tt)) (hb, (ha, tt)) r.ambient p asks)
 

@@ -13,7 +13,7 @@
 --   KeepsEqual .. a b result                 no equal pair is lost, unless a type error says that there is none
 --   TellsApart .. a b result                 a type error says that no assignment made the two one
 --   AnswersError .. g v a b result           and which error it is, aliases being related as g says
---   RelatesAgreeing .. g v a b result        where the two are related nothing in them clashes
+--   RelatesAgreeing .. g v a b result        where the two are related nothing in what they came to before clashes
 --   AnswersExactly .. v a b result           exact at invariance, of first-order terms and records
 --   ProvesApart .. v a b result              and then a type error says that nothing unified the two
 --   SpendsNoMore .. v a b result             and how much of the budget that takes in one universe
@@ -44,7 +44,7 @@ use Rattle.relation_semantics.specs.Headline.{AnswersGoals, KeepsEqualTerms, IsF
 use Rattle.relation_semantics.specs.OneUniverse.{IsPairOf, KeepsUniverseOf, all_unbound}
 use Rattle.relation_semantics.specs.Relation.{at}
 use Rattle.relation_semantics.specs.Errors.{ErrorOf}
-use Rattle.relation_semantics.specs.Agreeing.{Agree}
+use Rattle.relation_semantics.specs.Agreeing.{AgreeIn}
 use Rattle.relation_semantics.specs.Lawful.{items_of}
 use Rattle.relation_steps.specs.Arguments.{related_tree}
 use Rattle.relation_semantics.specs.Contexts.{Context, DoesNothing, RegistersGoals}
@@ -125,11 +125,11 @@ module _ {S Key Id Name A : Type 0} (state : S → Context Key Id Name) (old new
   AnswersError g v a b result = IfUnrelated result (λ e. ErrorOf (state new).meaning
       (solver_settings g (state new).setup) (items_of (state new).meaning) (state new).store v e (term a) (term b))
 
-  -- What clashes is refused: the two agree, where they are related.
+  -- What clashes is refused: the two agree, by what they came to before, where they are related.
   abbrev pub RelatesAgreeing : {X : Type 0} → StructurallyRelateAliases → Variance → A → A →
       Result X (RelateFault Key Id Name) → Type 0
-  RelatesAgreeing g v a b result = IfOk result (λ goals. Agree (solver_settings g (state old).setup)
-      (items_of (state old).meaning) (at v) (term a) (term b))
+  RelatesAgreeing g v a b result = IfOk result (λ goals. AgreeIn (solver_settings g (state old).setup)
+      (items_of (state old).meaning) (state old).store (at v) (term a) (term b))
 
   -- Exact, of first-order terms in a first-order record at invariance: just the solutions that unify them stay, up to
   -- erasure, the record stays first-order, and in one universe what was in one, with no more variables; and no goal is

@@ -15,7 +15,7 @@ use Rattle.relation_semantics.proofs.Building.{built_itself}
 use Rattle.relation_semantics.proofs.Opening.{unused_step}
 use Rattle.relation_combining.proofs.OpeningBoth.{body_scope, unused_stand_ins, bodies_error, bodies_built, bodies_agree, bodies_smaller}
 use Rattle.relation_semantics.proofs.Passing.{passes_nowhere}
-use Rattle.plain_relation.specs.Plain.{IsUnbound, plain_store, plain_state, plain_manner}
+use Rattle.plain_relation.specs.Plain.{IsUnbound, plain_settings, plain_store, plain_state, plain_manner}
 
 -- Nothing escapes from what is not bound.
 unbound_within : (d : ℕ) (t : Tree) → Leaves IsUnbound t → StaysWithin d t
@@ -59,10 +59,15 @@ module _ {Key Id Name : Type 0} (m : Meaning Key Id Name) (v : Variance) (cs : L
           right_taken = (k.right_taken.0, k.right_taken.1.1);
         };
         errors = λ n set i st e later s o.
-            bodies_error n set i st v e ks ls t u t u (unused_stand_ins ks t w.0) (unused_stand_ins ls u w.1) o;
-        agrees = λ set i o. bodies_agree set i v ks ls t u t u (unused_stand_ins ks t w.0) (unused_stand_ins ls u w.1)
-            k.left_taken.1.0 k.right_taken.1.0 o;
-        built = bodies_built (plain_store m cs) ks ls t u t u (unused_stand_ins ks t w.0) (unused_stand_ins ls u w.1);
+            bodies_error n set i st v e ks ls t u t u {now = plain_store m cs} (unused_stand_ins ks t w.0)
+            (unused_stand_ins ls u w.1) o;
+        agrees = λ st began. (
+          λ z. bodies_agree plain_settings (items_of m) v st began.sound began.later ks ls t u t u
+              (unused_stand_ins ks t w.0) (unused_stand_ins ls u w.1) k.left_taken.1.0 k.right_taken.1.0 z,
+          began,
+        );
+        built = bodies_built (plain_store m cs) ks ls t u t u {now = plain_store m cs} (unused_stand_ins ks t w.0)
+            (unused_stand_ins ls u w.1);
         same_budget = refl;
         smaller = bodies_smaller (plain_store m cs) ks ls t u;
       }
@@ -89,7 +94,7 @@ module _ {Key Id Name : Type 0} (m : Meaning Key Id Name) (v : Variance) (cs : L
   unfolding passes_nowhere
   no_more (Some ks) (Some ls) k round second tree = record {
     passes = passes_nowhere _ (plain_state m v cs);
-    verdict = (second, inr (relates_once ks ls k), refl, refl);
+    verdict = (second, inr (relates_once ks ls k), refl, refl, refl);
     built = built_itself (plain_store m cs) (bind ks t) (bind ls u);
   }
   no_more (Some ks) None k round second tree = absurd (false≢true k.right_known)

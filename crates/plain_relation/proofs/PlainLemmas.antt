@@ -39,7 +39,8 @@ use Rattle.relation_semantics.proofs.Growing.{constraint_sound, constraint_is_la
 use Rattle.relation_semantics.proofs.Growing.{constraint_holds, constraint_keeps}
 use Rattle.relation_semantics.proofs.Passing.{passes_nowhere}
 use Rattle.relation_semantics.proofs.Answering.{may_itself}
-use Rattle.relation_semantics.proofs.Agreeing.{agree_regions}
+use Rattle.relation_semantics.proofs.AgreeingBefore.{regions_agreed}
+use Rattle.relation_semantics.proofs.Beginning.{begins_by}
 use Rattle.relation_semantics.proofs.Erased.{erase_region}
 use Rattle.relation_semantics.proofs.OneUniverse.{keeps_pair, standing_keeps, binds_itself}
 use Rattle.variable_tables.proofs.Grows.{known_of_term}
@@ -191,8 +192,12 @@ module _ {Key Id Name : Type 0} (m : Meaning Key Id Name) where
         outcome = outcome;
         answer = may_itself plain_manner (plain_state m v (cs ++ c ∷ [])) v (m.region a);
         known = k;
-        agrees = λ z. agree_regions plain_settings (items_of m) v (m.region a) (m.region b)
-            (term_sort_of region_var (m.region a) left.0) (term_sort_of region_var (m.region b) right.0);
+        agrees = λ z st began. (
+          regions_agreed st began.sound plain_settings (items_of m) v (m.region a) (m.region b)
+              (term_sort_of region_var (m.region a) left.0) (term_sort_of region_var (m.region b) right.0),
+          begins_by (plain_state m v cs) (plain_state m v (cs ++ c ∷ [])) (stays_same m) (goes v cs c of_store 0).later
+              refl refl st began,
+        );
       };
       exact = λ q is pair. (
         (λ j n t found. absurd cc),

@@ -42,7 +42,7 @@ use Rattle.relation_semantics.proofs.Roots.{roots_goes, exact_itself}
 use Rattle.relation_combining.proofs.Shallowly.{shallow_free_const, variable_made}
 use Rattle.relation_combining.proofs.SolvingVariables.{const_left_step, const_right_step, left_refused, right_refused, const_comes_to_none}
 use Rattle.relation_semantics.proofs.Standing.{term_context, term_within}
-use Rattle.relation_semantics.proofs.Agreeing.{agree_same}
+use Rattle.relation_semantics.proofs.AgreeingBefore.{same_agreed}
 
 of_numbers : (k : VarKind) → IsNumberKind k → IsNumber k
 of_numbers int_var h = tt
@@ -101,7 +101,7 @@ module _ {Key Id Name : Type 0} where
         subst (Stepped solver_manner IsFormed (standing r m was L) (standing r n now K) (m.ty a) (m.ty b) n.ty) (sym is)
         (subst₂ (λ z st. Stepped solver_manner IsFormed (standing r m was L) (standing r z st K) (m.ty a) (m.ty b) z.ty
         (Ok (Parts a b))) (sym same) (sym stays)
-        (parts_step r m was L K l IsFormed (m.ty a) (m.ty b) m.ty a b sound (itself refl) (itself refl) asked
+        (parts_step r m was L K l IsFormed (m.ty a) (m.ty b) m.ty a b sound (itself refl) (itself refl) (λ j n e. e) asked
         (type_formed (m.ty a) s (term_within was (m.ty a) asked.left_in) x.0 x.1.0 x.1.1)
         (type_formed (m.ty b) t (term_within was (m.ty b) asked.right_in) y.0 y.1.0 y.1.1) left))
 
@@ -166,7 +166,7 @@ module _ {Key Id Name : Type 0} where
           (subst₂ (λ z st. Stepped solver_manner IsFormedConst (standing r m was L) (standing r z st K) (m.const_ a)
           (m.const_ b) z.const_ (Ok (Parts a b))) (sym same) (sym stays)
           (parts_step r m was L K l IsFormedConst (m.const_ a) (m.const_ b) m.const_ a b sound (itself refl) (itself refl)
-          asked f h (left f h)))
+          (λ j n e. e) asked f h (left f h)))
 
   -- What two constants are read as is asked as they are.
   pub read_asked : (r : State Key Id Name) → BindingsAreWellBound r.store → (a b x y : ConstKey Key) →
@@ -201,7 +201,7 @@ module _ {Key Id Name : Type 0} where
       (λ w s sat. ap (apply s) e) (λ w s sat h. sat)
       (λ h. (h, exact_itself r.store ((r.meaning).const_ a) ((r.meaning).const_ b) e)) (keeps_itself r.store)
       (full_itself r.store) (built_itself r.store ((r.meaning).const_ a) ((r.meaning).const_ b)) (inl refl) sure
-      (λ set c. agree_same set c r.ambient ((r.meaning).const_ a) ((r.meaning).const_ b) e)
+      (λ set c st g l. same_agreed set c st r.ambient ((r.meaning).const_ a) ((r.meaning).const_ b) e)
 
 is_number_kind_of : (k : VarKind) → IsNumber k → IsNumberKind k
 is_number_kind_of int_var h = tt

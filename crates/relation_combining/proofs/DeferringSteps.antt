@@ -13,13 +13,12 @@ use Rattle.relation_terms.specs.Meaning.{Extends}
 use Rattle.relation_terms.proofs.Stays.{stays_same}
 use Rattle.relation_folds.specs.declared.error.RelateFault.TheVariants.{Memory}
 use Rattle.relation_semantics.specs.declared.relate.Step.TheVariants.{Done}
-use Rattle.relation_semantics.specs.Agreeing.{IsFlexible, Agree}
 use Rattle.relation_semantics.specs.AliasGoals.{alias_at}
 use Rattle.relation_semantics.specs.Errors.{IsOpaque, IsOpaqueBeside}
 use Rattle.relation_semantics.specs.Goals.{goal_of, IsRegistered, of_alias, of_too_much, alias_relate_predicate, ambiguous_predicate}
 use Rattle.relation_semantics.specs.Headline.{IsFirstOrderPair}
 use Rattle.relation_semantics.specs.Alphabets.{Alphabet, IsBuiltOf, IsPredicateOf, IsGoalOf, HasOpaque, HasNoError, Builds}
-use Rattle.relation_semantics.specs.Lawful.{State, Passes, Stepped, MayAnswer, RegisteredIn, items_in}
+use Rattle.relation_semantics.specs.Lawful.{State, Passes, Stepped, MayAnswer, RegisteredIn, BeganWith, AgreesIn, items_in}
 use Rattle.relation_semantics.specs.Outcomes.{Outcome}
 use Rattle.relation_semantics.specs.Parts.{IsFormed, IsFormedConst}
 use Rattle.relation_semantics.specs.Relation.{at, sort_of, IsError, IsAlias}
@@ -27,7 +26,8 @@ use Rattle.relation_semantics.specs.Settings.{DefersAliases, LeavesOpaque}
 use Rattle.relation_semantics.specs.OneUniverse.{BindsNoMore}
 use Rattle.relation_semantics.specs.Steps.{BindsNoBinder}
 use Rattle.relation_semantics.specs.Stores.{Store, IsSound, InContext, unbound, weight}
-use Rattle.relation_semantics.proofs.Agreeing.{agree_flexible, agree_left}
+use Rattle.relation_semantics.proofs.AgreeingBefore.{left_agreed}
+use Rattle.relation_semantics.proofs.Beginning.{begins_by}
 use Rattle.relation_semantics.proofs.AliasOutcomes.{errors_relate, alias_goals_relate, alias_goals_relate_consts, ambiguous_relates}
 use Rattle.relation_semantics.proofs.Answering.{may_itself}
 use Rattle.relation_semantics.proofs.Building.{builds_asking, built_same, builds_tainted}
@@ -44,10 +44,10 @@ use Rattle.relation_steps.specs.Keyed.{SteppedTys, SteppedConsts}
 use Rattle.relation_steps.specs.Terms.{AskedTerms}
 use Rattle.relation_combining.specs.Solving.{solver_manner}
 use Rattle.relation_semantics.proofs.Deferring.{opaque_is_alias, beside_is_opaque}
-use Rattle.relation_combining.proofs.GoalPasses.{goal_passes, no_goal_passes}
+use Rattle.relation_combining.proofs.GoalPasses.{goal_passes, no_goal_passes, begins_asking}
 use Rattle.relation_combining.proofs.OpeningBoth.{changes_goes}
 use Rattle.relation_semantics.proofs.Erased.{alias_not_first, error_not_first}
-use Rattle.relation_steps.proofs.Errors.{error_flexible}
+use Rattle.relation_steps.proofs.Errors.{error_agreed}
 
 error_in_alphabet : (k : Alphabet) (t : Tree) → IsError t → IsBuiltOf k t → HasNoError k → ⊥
 error_in_alphabet k (leaf (atom type_error)) e h n = false≢true (sym n.0 ∙ h)
@@ -62,7 +62,8 @@ module _ {Key Id Name K : Type 0} (F : Tree → Type 0) {r q : State Key Id Name
     -- It relates the two, and the answer is one that it does.
     pub goal_step : Outcome (items_in r) r.kept.environment (at r.ambient) r.store r.store r.goals (goal_of r.kept.environment p ∷ []) a b →
         (t : K) → MayAnswer solver_manner q r.ambient a (tree t) → IsTrue (known (tree t)) →
-        Agree r.kept.settings (items_in r) (at r.ambient) a b → (r.ambient ≡ Invariant → IsFirstOrderPair r.store a b → ⊥) →
+        ((st : Store) → BeganWith r st → AgreesIn r st (at r.ambient) a b) →
+        (r.ambient ≡ Invariant → IsFirstOrderPair r.store a b → ⊥) →
         ((k : Alphabet) → IsBuiltOf k a → IsBuiltOf k b → IsPredicateOf k p) →
         Stepped solver_manner F r q a b tree (Ok (Done t))
     unfolding goal_passes
@@ -73,7 +74,7 @@ module _ {Key Id Name K : Type 0} (F : Tree → Type 0) {r q : State Key Id Name
             (sym h.store) outcome;
         answer = answer;
         known = sure;
-        agrees = λ z. agreeing;
+        agrees = λ z st began. (agreeing st began, begins_asking p h st began);
       };
       exact = λ z is pair. absurd (not_first is pair);
       full = λ ha hb. full_same h.store;
@@ -117,10 +118,6 @@ module _ {Key Id Name K : Type 0} (F : Tree → Type 0) {r q : State Key Id Name
       outcome = errors_relate (items_in r) r.kept.environment r.ambient r.store q.store r.goals a b h.taints a_in b_in sa sb
           one
 
-      flexible : IsError a ⊎ IsError b → IsFlexible a ⊎ IsFlexible b
-      flexible (inl e) = inl (error_flexible a e)
-      flexible (inr e) = inr (error_flexible b e)
-
       not_first : IsError a ⊎ IsError b → IsFirstOrderPair r.store a b → ⊥
       not_first (inl e) pair = error_not_first a e pair.left
       not_first (inr e) pair = error_not_first b e pair.right
@@ -141,7 +138,11 @@ module _ {Key Id Name K : Type 0} (F : Tree → Type 0) {r q : State Key Id Name
           outcome = outcome;
           answer = answer;
           known = sure;
-          agrees = λ z. agree_flexible r.kept.settings (items_in r) r.ambient a b (flexible one, same);
+          agrees = λ z st began. (
+            error_agreed r.kept.settings (items_in r) st began.sound r.ambient a b one same,
+            begins_by r q (subst (Extends r.meaning) (sym h.meaning) (stays_same r.meaning))
+                (changes_goes r.store q.store (h.taints).nothing_else).later k.kept k.remembered st began,
+          );
         };
         exact = λ z is pair. absurd (not_first one pair);
         full = λ ha hb. full_by (changes_goes r.store q.store (h.taints).nothing_else)
@@ -204,8 +205,8 @@ module _ {Key Id Name A E : Type 0} {r q : State Key Id Name} {x : A} (p : Tree)
     tys_to_goal l o e = goal_step IsFormed ta tb (q.meaning).ty p h
         (alias_registered (items_in r) r.kept.settings r.ambient r.store r.store ta tb p l.1 e o a_context b_context)
         (alias_goals_relate (items_in r) r.kept.environment r.ambient r.store r.goals ta tb p a_context b_context sa sb e)
-        a answers_left left_sure (agree_left r.kept.settings (items_in r) r.ambient ta tb (inl (l, o)) one_sort)
-        (λ z. one_not_first ta tb o) (λ k ha hb. alias_built k r.ambient ta tb p e ha hb)
+        a answers_left left_sure (λ st began. left_agreed st began.sound r.kept.settings (items_in r) r.ambient ta tb
+        (inl (l, o)) one_sort) (λ z. one_not_first ta tb o) (λ k ha hb. alias_built k r.ambient ta tb p e ha hb)
       where
         a_context : InContext r.store ta
         a_context = term_context r.store ta asked.left_in
@@ -220,7 +221,7 @@ module _ {Key Id Name A E : Type 0} {r q : State Key Id Name} {x : A} (p : Tree)
         (subst (λ z. Outcome (items_in r) r.kept.environment (at r.ambient) r.store r.store r.goals
         (goal_of r.kept.environment z ∷ []) ta tb) (sym e)
         (ambiguous_relates (items_in r) r.kept.environment r.ambient r.store r.goals ta tb)) a answers_left left_sure
-        (agree_left r.kept.settings (items_in r) r.ambient ta tb (inr (l, o)) one_sort)
+        (λ st began. left_agreed st began.sound r.kept.settings (items_in r) r.ambient ta tb (inr (l, o)) one_sort)
         (λ z. one_not_first ta tb (one_alias (one_opaque ta tb o)))
         (λ k ha hb. subst (IsPredicateOf k) (sym e) (alphabet k ha hb (one_opaque ta tb o)))
       where
@@ -244,7 +245,8 @@ module _ {Key Id Name A E : Type 0} {r q : State Key Id Name} {x : A} (p : Tree)
         related = relates_by r.ambient ta tb (goal_passes p h asks 0) (subst (λ st. Outcome (items_in r) r.kept.environment
             (at r.ambient) r.store st r.goals (goal_of r.kept.environment p ∷ []) ta tb) (sym h.store) relates);
       })) (subst (λ z. IsTrue (known z)) (sym b_stays) asked.right_known)
-      (agree_left r.kept.settings (items_in r) r.ambient ta tb (inl (l, o)) one_sort) (λ z. one_not_first ta tb o)
+      (λ st began. left_agreed st began.sound r.kept.settings (items_in r) r.ambient ta tb (inl (l, o)) one_sort)
+      (λ z. one_not_first ta tb o)
       (λ k ha hb. subst (IsPredicateOf k) (sym e) (ha, (hb, tt)))
     where
       ta : Tree

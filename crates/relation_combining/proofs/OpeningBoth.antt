@@ -1,20 +1,21 @@
 -- Opening two binders in a context, the one with placeholders and the other with new variables: what that does to the
 -- context, and that the bodies may stand for the binders.
 use Rattle.std.proofs.Common.{◌≡◌, ◌⊎◌, ℕ, ◌+◌, ◌<◌, refl, sym, ap, ap₂, ◌∙◌, arith, inl, inr, subst, subst₂, List}
-use Rattle.std.proofs.Common.{[], ◌∷◌, ◌++◌, length, get_or}
+use Rattle.std.proofs.Common.{[], ◌∷◌, ◌++◌, map, length, get_or}
 use Rattle.term_enums.specs.declared.Variance.{Variance}
 use Rattle.relation_terms.specs.Heads.{BoundKind, VarKind, type_var, const_var, Leaf, variable, bound, placeholder}
 use Rattle.relation_terms.specs.Heads.{atom, unknown}
-use Rattle.relation_terms.specs.Trees.{Tree, leaf, bind, inst, size, Leaves}
+use Rattle.relation_terms.specs.Trees.{Tree, leaf, bind, apply, inst, size, Leaves}
 use Rattle.relation_terms.specs.Meaning.{Meaning}
 use Rattle.relation_folds.specs.declared.error.TypeError.{TypeError}
 use Rattle.relation_semantics.specs.Relation.{Items, StaysWithin, at, second_opened, first_opened}
-use Rattle.relation_semantics.specs.Stores.{Store, unbound, entry_term, counts_term, counts_bound, sum_over, bound_term}
+use Rattle.relation_semantics.specs.Stores.{Store, unbound, entry_of, entry_term, counts_term, counts_bound, sum_over}
+use Rattle.relation_semantics.specs.Stores.{bound_term}
 use Rattle.relation_semantics.specs.Stores.{all_bound, IsMadeLeaf, IsInScope, InContext, IsNamable, IsTermIn}
 use Rattle.relation_semantics.specs.Stores.{IsSound, resolved, weight}
 use Rattle.relation_semantics.specs.Goals.{Goal}
 use Rattle.relation_semantics.specs.Steps.{ChangesNothing, EntersForall, LeavesBody, EntersUniverse, InstantiatesBinder}
-use Rattle.relation_semantics.specs.Steps.{ArePlaceholders}
+use Rattle.relation_semantics.specs.Steps.{IsLater, ArePlaceholders}
 use Rattle.relation_semantics.specs.Outcomes.{StepsTo}
 use Rattle.relation_semantics.specs.Alphabets.{Alphabet, IsBuiltOf, StaysBuilt, BuiltFrom, MayBind}
 use Rattle.relation_semantics.proofs.Building.{body_built, built_opened, each_writes}
@@ -22,8 +23,9 @@ use Rattle.relation_semantics.specs.Measures.{Goes}
 use Rattle.relation_semantics.specs.Settings.{Settings}
 use Rattle.relation_semantics.specs.Errors.{IsStandIn, StandFor, ErrorOf, of_bodies}
 use Rattle.relation_semantics.specs.Bound.{AreBoundAs, IsWellBound}
-use Rattle.relation_semantics.specs.Agreeing.{Agree}
-use Rattle.relation_semantics.proofs.Agreeing.{agree_opened}
+use Rattle.relation_semantics.specs.Agreeing.{AgreeIn}
+use Rattle.relation_semantics.proofs.AgreeingBefore.{opened_agreed, came_free}
+use Rattle.relation_semantics.proofs.Growing.{same_entries, new_unbound}
 use Rattle.relation_semantics.specs.Generalising.{MakesUnbound}
 use Rattle.relation_semantics.specs.Binders.{variable_kind, MakesEach, makes_none, makes_next, InstantiatesEach}
 use Rattle.relation_semantics.proofs.Trees.{Leaves_map₂, inst_within, apply_alike}
@@ -90,11 +92,13 @@ body_scope st g ks t h = Leaves_map₂ (IsMadeLeaf st) (IsNamable st.universe) (
     at_leaf (atom x) m u = m
     at_leaf unknown m u = u
 
--- An opened body is the body with stand-ins put for what its binder binds.
-pub record StandIns (ks : List BoundKind) (t x : Tree) : Type 0 where
+-- An opened body is the body with stand-ins put for what its binder binds, of which no record knew anything that what
+-- there is now came of.
+pub record StandIns (now : Store) (ks : List BoundKind) (t x : Tree) : Type 0 where
   pub trees : List Tree
   pub stand : StandFor ks trees
   pub put : x ≡ inst trees 0 t
+  pub unknown_then : (st : Store) → IsSound st → IsLater st now → map (apply (resolved st)) trees ≡ trees
 
 placeholders_stand_for : (u : ℕ) (ks : List BoundKind) (ps : List Tree) → ArePlaceholders u ks ps → StandFor ks ps
 placeholders_stand_for u [] [] h = tt
@@ -102,6 +106,45 @@ placeholders_stand_for u [] (p ∷ ps) h = absurd h
 placeholders_stand_for u (k ∷ ks) [] h = absurd h
 placeholders_stand_for u (k ∷ ks) (p ∷ ps) h =
     (subst (IsStandIn k) (sym h.0.1) refl, placeholders_stand_for u ks ps h.2)
+
+-- Placeholders come to themselves, and so do variables that stay unbound.
+placeholders_stay : (st : Store) (u : ℕ) (ks : List BoundKind) (ps : List Tree) → ArePlaceholders u ks ps →
+    map (apply (resolved st)) ps ≡ ps
+placeholders_stay st u [] [] h = refl
+placeholders_stay st u [] (p ∷ ps) h = absurd h
+placeholders_stay st u (k ∷ ks) [] h = absurd h
+placeholders_stay st u (k ∷ ks) (p ∷ ps) h =
+    ap₂ ◌∷◌ (ap (apply (resolved st)) h.0.1 ∙ sym h.0.1) (placeholders_stay st u ks ps h.2)
+
+abbrev AreUnbound : Store → List Tree → Type 0
+AreUnbound st [] = Unit {0}
+AreUnbound st (x ∷ xs) =
+    ((k : VarKind) × (n : ℕ) × (x ≡ leaf (variable k n)) × (entry_of st k n ≡ unbound)) × AreUnbound st xs
+
+unbound_more : (st : Store) (k : VarKind) (n : ℕ) (xs : List Tree) → AreUnbound st xs → entry_of st k n ≡ unbound →
+    AreUnbound st (xs ++ leaf (variable k n) ∷ [])
+unbound_more st k n [] h e = ((k, n, refl, e), tt)
+unbound_more st k n (x ∷ xs) h e = (h.0, unbound_more st k n xs h.1 e)
+
+unbound_still : (st now : Store) → ((k : VarKind) (n : ℕ) → entry_of now k n ≡ entry_of st k n) → (xs : List Tree) →
+    AreUnbound st xs → AreUnbound now xs
+unbound_still st now f [] h = tt
+unbound_still st now f (x ∷ xs) h =
+    ((h.0.0, h.0.1, h.0.2, f h.0.0 h.0.1 ∙ h.0.3), unbound_still st now f xs h.1)
+
+each_is_unbound : {u : ℕ} {before now : Store} {ks : List BoundKind} {xs : List Tree} → MakesEach u before ks xs now →
+    AreUnbound now xs
+each_is_unbound {now = now} (makes_none p q) = subst (AreUnbound now) (sym q) tt
+each_is_unbound {u} {now = now} (makes_next {middle = middle} {xs = xs} {n = n} k f q p e) =
+    subst (AreUnbound now) (sym e) (unbound_more now (variable_kind k) n xs
+    (unbound_still middle now (same_entries middle now (variable_kind k) n u q) xs (each_is_unbound f))
+    (new_unbound middle now (variable_kind k) n u q))
+
+unbound_stay : (st now : Store) → IsSound st → IsLater st now → (xs : List Tree) → AreUnbound now xs →
+    map (apply (resolved st)) xs ≡ xs
+unbound_stay st now g l [] h = refl
+unbound_stay st now g l (x ∷ xs) h = ap₂ ◌∷◌
+    (ap (apply (resolved st)) h.0.2 ∙ came_free st now g l h.0.0 h.0.1 h.0.3 ∙ sym h.0.2) (unbound_stay st now g l xs h.1)
 
 stand_more : (k : BoundKind) (t : Tree) (ks : List BoundKind) (ts : List Tree) → StandFor ks ts → IsStandIn k t →
     StandFor (ks ++ k ∷ []) (ts ++ t ∷ [])
@@ -117,49 +160,55 @@ variables_stand_for (makes_next {ks = ks} {xs = xs} {n = n} k f q p e) = subst�
     (stand_more k (leaf (variable (variable_kind k) n)) ks xs (variables_stand_for f) (variable_sort k))
 
 -- Where a body uses nothing of its binder any stand-ins leave it.
-pub unused_stand_ins : (ks : List BoundKind) (t : Tree) → StaysWithin 0 t → StandIns ks t t
+pub unused_stand_ins : {now : Store} (ks : List BoundKind) (t : Tree) → StaysWithin 0 t → StandIns now ks t t
 unused_stand_ins ks t h = record {
   trees = some_placeholders 0 0 ks;
   stand = placeholders_stand_for 0 ks (some_placeholders 0 0 ks) (some_are_placeholders 0 0 ks);
   put = sym (inst_within (some_placeholders 0 0 ks) 0 t h);
+  unknown_then = λ st g l. placeholders_stay st 0 ks (some_placeholders 0 0 ks) (some_are_placeholders 0 0 ks);
 }
 
-entered_stand_ins : (before after : Store) (ks : List BoundKind) (t x : Tree) → EntersForall before after ks t x →
-    StandIns ks t x
-entered_stand_ins before after ks t x f = go f.opens
+entered_stand_ins : {now : Store} (before after : Store) (ks : List BoundKind) (t x : Tree) →
+    EntersForall before after ks t x → StandIns now ks t x
+entered_stand_ins {now} before after ks t x f = go f.opens
   where
-    go : LeavesBody before after t x ⊎ ((StaysWithin 0 t → ⊥) × EntersUniverse before after ks t x) → StandIns ks t x
-    go (inl p) = subst (StandIns ks t) (sym p.body_is) (unused_stand_ins ks t p.unused)
+    go : LeavesBody before after t x ⊎ ((StaysWithin 0 t → ⊥) × EntersUniverse before after ks t x) → StandIns now ks t x
+    go (inl p) = subst (StandIns now ks t) (sym p.body_is) (unused_stand_ins ks t p.unused)
     go (inr p) = let e = p.1 in record {
       trees = e.placeholders;
       stand = placeholders_stand_for after.universe ks e.placeholders e.are_placeholders;
       put = e.body_is;
+      unknown_then = λ st g l. placeholders_stay st after.universe ks e.placeholders e.are_placeholders;
     }
 
 instantiated_stand_ins : (before after : Store) (ks : List BoundKind) (t x : Tree) →
-    InstantiatesEach before after ks t x → StandIns ks t x
-instantiated_stand_ins before after ks t x f =
-    record { trees = f.variables; stand = variables_stand_for f.makes; put = f.body_is }
+    InstantiatesEach before after ks t x → StandIns after ks t x
+instantiated_stand_ins before after ks t x f = record {
+  trees = f.variables;
+  stand = variables_stand_for f.makes;
+  put = f.body_is;
+  unknown_then = λ st g l. unbound_stay st after g l f.variables (each_is_unbound f.makes);
+}
 
 -- An error of two opened bodies is one of the binders.
 pub bodies_error : {Key Id Name : Type 0} (m : Meaning Key Id Name) (k : Settings) (c : Items) (st : Store)
-    (v : Variance) (e : TypeError Key Id Name) (ks ls : List BoundKind) (t u x y : Tree) → StandIns ks t x → StandIns ls u y →
-    ErrorOf m k c st v e x y → ErrorOf m k c st v e (bind ks t) (bind ls u)
+    (v : Variance) (e : TypeError Key Id Name) (ks ls : List BoundKind) (t u x y : Tree) {now : Store} →
+    StandIns now ks t x → StandIns now ls u y → ErrorOf m k c st v e x y → ErrorOf m k c st v e (bind ks t) (bind ls u)
 bodies_error m k c st v e ks ls t u x y p q o =
     of_bodies p.trees q.trees refl refl p.stand q.stand (subst₂ (ErrorOf m k c st v e) p.put q.put o)
 
 -- Opened bodies are built of what the binders are.
-pub bodies_built : (st : Store) (ks ls : List BoundKind) (t u x y : Tree) → StandIns ks t x → StandIns ls u y →
-    BuiltFrom st (bind ks t) (bind ls u) x y
+pub bodies_built : (st : Store) (ks ls : List BoundKind) (t u x y : Tree) {now : Store} → StandIns now ks t x →
+    StandIns now ls u y → BuiltFrom st (bind ks t) (bind ls u) x y
 bodies_built st ks ls t u x y p q = λ k ha hb all.
     (body_built k ks p.trees t x p.stand p.put ha, body_built k ls q.trees u y q.stand q.put hb)
 
--- Two binders agree if the opened bodies do.
-pub bodies_agree : (set : Settings) (c : Items) (v : Variance) (ks ls : List BoundKind) (t u x y : Tree) → StandIns ks t x →
-    StandIns ls u y → AreBoundAs ks 0 t → AreBoundAs ls 0 u → Agree set c (at v) x y →
-    Agree set c (at v) (bind ks t) (bind ls u)
-bodies_agree set c v ks ls t u x y p q f h g = inr (agree_opened set c ks ls p.trees q.trees p.stand q.stand v 0 t u f h
-    (subst₂ (Agree set c (at v)) p.put q.put g))
+-- Two binders agree, by what there was, if the opened bodies do.
+pub bodies_agree : (set : Settings) (c : Items) (v : Variance) {now : Store} (st : Store) → IsSound st → IsLater st now →
+    (ks ls : List BoundKind) (t u x y : Tree) → StandIns now ks t x → StandIns now ls u y → AreBoundAs ks 0 t →
+    AreBoundAs ls 0 u → AgreeIn set c st (at v) x y → AgreeIn set c st (at v) (bind ks t) (bind ls u)
+bodies_agree set c v st g l ks ls t u x y p q f h z = inr (opened_agreed st g set c v ks ls p.trees q.trees t u p.stand
+    q.stand (p.unknown_then st g l) (q.unknown_then st g l) f h (subst₂ (AgreeIn set c st (at v)) p.put q.put z))
 
 -- What is shown of both bodies together, of which the first was entered and the second instantiated.
 pub record BothOpened (before after : Store) (ks ls : List BoundKind) (t u x y : Tree) : Type 0 where
@@ -171,8 +220,8 @@ pub record BothOpened (before after : Store) (ks ls : List BoundKind) (t u x y :
   pub instantiated_in : IsTermIn after y
   pub entered_by_lists : IsWellBound x
   pub instantiated_by_lists : IsWellBound y
-  pub entered_for : StandIns ks t x
-  pub instantiated_for : StandIns ls u y
+  pub entered_for : StandIns after ks t x
+  pub instantiated_for : StandIns after ls u y
   pub smaller : weight after x + weight after y < weight before (bind ks t) + weight before (bind ls u)
   pub second : (c : Items) (e : Tree) (v : Variance) (earlier : List Goal) →
       StepsTo c e before after earlier [] (second_opened ls ks v) u t (at v) y x

@@ -1,7 +1,9 @@
 -- Steps of a relation over a context: what its keys mean and what is recorded is the context's, and nothing is
 -- registered.
 use Rattle.std.proofs.Common.{◌≡◌, ◌≢◌, ◌⊎◌, ℕ, ◌+◌, refl, sym, ap, ap₂, ◌∙◌, arith, inl, inr, subst, subst₂, List, [], IsTrue}
-use Rattle.std.proofs.Common.{max, min, Ok, Err, true, false}
+use Rattle.std.proofs.Common.{◌≤◌, max, min, Ok, Err, true, false, nat_eq}
+use native.Mathlib.Decide.{dec_le}
+use Rattle.std.proofs.lemmas.Bool.Decides.{eqb_tells}
 use Rattle.std.proofs.lemmas.List.Elements.{All-nil}
 use Rattle.std.proofs.lemmas.List.{append-nil}
 use Rattle.term_enums.specs.declared.Variance.{Variance}
@@ -21,11 +23,15 @@ use Rattle.relation_semantics.specs.declared.relate.Step.TheVariants.{Done, Part
 use Rattle.term_enums.specs.declared.StructurallyRelateAliases.TheVariants.{No}
 use Rattle.relation_semantics.specs.Settings.{Settings}
 use Rattle.relation_semantics.specs.Relation.{Items, Interpretation, Rel, at, sort_of, IsError, same as same_rel}
-use Rattle.relation_semantics.specs.Agreeing.{Agree}
-use Rattle.relation_semantics.proofs.Agreeing.{agree_read, agree_root, agree_root_back, number_sort}
-use Rattle.relation_semantics.specs.Stores.{Store, IsSound, Satisfies, IsMade, InContext, MayStandFor, weight}
+use Rattle.relation_semantics.specs.Agreeing.{AgreeIn}
+use Rattle.relation_semantics.proofs.AgreeingBefore.{same_agreed, root_agreed, root_agreed_back, read_agreed}
+use Rattle.relation_semantics.proofs.Beginning.{begins_by}
+use Rattle.relation_semantics.proofs.Standing.{itself_stands}
+use Rattle.relation_semantics.proofs.StoreCalls.{number_stands}
+use Rattle.relation_semantics.specs.Stores.{Store, unbound, entry_of, IsSound, Satisfies, IsMade, InContext, MayStandFor}
+use Rattle.relation_semantics.specs.Stores.{weight}
 use Rattle.relation_semantics.specs.Goals.{Goal, GoalInContext, MakesOneTree}
-use Rattle.relation_semantics.specs.Steps.{Equates, InstantiatesNumber, StaysFull}
+use Rattle.relation_semantics.specs.Steps.{IsLater, Equates, InstantiatesNumber, StaysFull}
 use Rattle.relation_semantics.specs.Alphabets.{StaysBuilt, IsBuiltOf}
 use Rattle.relation_semantics.proofs.Building.{built_itself, builds_number, read_from}
 use Rattle.relation_semantics.specs.Outcomes.{Exact, NoEqualTerms, NoUnifier}
@@ -49,6 +55,24 @@ use Rattle.relation_semantics.proofs.Numbers.{IsNumber, number_goes, number_equa
 use Rattle.relation_semantics.proofs.Numbers.{number_universe, number_full}
 use Rattle.relation_semantics.proofs.Numbers.{number_no_unifier, number_error, number_error_back}
 use Rattle.relation_combining.proofs.Exactly.{read_pair, reading_exact}
+
+-- Two roots that are made one agreed.
+roots_agreed : (st was now : Store) → IsSound st → IsLater st was → (set : Settings) (c : Items) (v : Variance)
+    (k : VarKind) (i l : ℕ) (a b : Tree) → a ≡ leaf (variable k i) → b ≡ leaf (variable k l) →
+    ((i ≡ l → ⊥) → Equates was now k (max i l) (min i l)) → AgreeIn set c st (at v) a b
+roots_agreed st was now g before set c v k i l a b p q equates = go (eqb_tells i l)
+  where
+    free : Equates was now k (max i l) (min i l) → entry_of was k i ≡ unbound
+    free e = of_either (dec_le i l)
+      where
+        of_either : Dec (i ≤ l) → entry_of was k i ≡ unbound
+        of_either (yes h) = ap (entry_of was k) (let z : i ≡ min i l = omega arith in z) ∙ e.root_unbound
+        of_either (no h) = ap (entry_of was k) (let z : i ≡ max i l = omega arith in z) ∙ (e.links).was_unbound
+
+    go : ((nat_eq i l ≡ true) × (i ≡ l)) ⊎ ((nat_eq i l ≡ false) × (i ≢ l)) → AgreeIn set c st (at v) a b
+    go (inl z) = same_agreed set c st v a b (p ∙ ap (λ n. leaf (variable k n)) z.1 ∙ sym q)
+    go (inr z) = root_agreed st was g before set c v k i a b (free (equates z.1)) p
+        (subst (MayStandFor k) (sym q) (itself_stands k l))
 
 -- A relation over other keys and another record, with another invariant.
 abbrev pub standing : {Key Id Name : Type 0} → State Key Id Name → Meaning Key Id Name → Store → Type 0 →
@@ -105,7 +129,7 @@ module _ {Key Id Name : Type 0} (r : State Key Id Name) where
       (IsFirstOrderStore was → IsFirstOrderStore now × Exact was now a b) → KeepsUniverse was now → StaysFull was now →
       StaysBuilt was now [] a b →
       (tree t ≡ a) ⊎ (tree t ≡ b) → IsTrue (known (tree t)) →
-      ((set : Settings) (c : Items) → Agree set c (at r.ambient) a b) →
+      ((set : Settings) (c : Items) (st : Store) → IsSound st → IsLater st was → AgreeIn set c st (at r.ambient) a b) →
       Stepped solver_manner F (standing r m was L) (standing r n now K) a b tree (Ok (Done t))
   unfolding over_passes
   one_step {X} F m n was now L K a b tree t same goes l equal keep exactly universe full built answer sure agreeing =
@@ -128,7 +152,10 @@ module _ {Key Id Name : Type 0} (r : State Key Id Name) where
           };
           answer = record { related = λ w s sat all. same_rel (answers answer w s sat) };
           known = sure;
-          agrees = λ k. agreeing r.kept.settings (items_of m);
+          agrees = λ k st began. (
+            agreeing r.kept.settings (items_of m) st began.sound began.later,
+            begins_by (standing r m was L) (standing r m now K) (stays_same m) goes.later refl refl st began,
+          );
         };
         exact = λ k is pair. let z = exactly pair.bindings in (z.0, z.1, keeps_pair was now a b universe);
         full = λ ha hb. full;
@@ -168,7 +195,7 @@ module _ {Key Id Name : Type 0} (r : State Key Id Name) where
       (roots_universe was now k o i l sound still equates) (roots_full was now k o i l sound still equates)
       (roots_built was now k o i l sound still equates a b p)
       (inl answer) (subst (λ z. IsTrue (known z)) (sym (answer ∙ p)) refl)
-      (λ set c. agree_root set c r.ambient k i a b p (ap sort_of q))
+      (λ set c st g before. roots_agreed st was now g before set c r.ambient k i l a b p q equates)
 
   -- A root of a number variable was bound to the other side, a type of its kind.
   pub number_step : {X : Type 0} (F : Tree → Type 0) (m n : Meaning Key Id Name) (was now : Store) (L K : Type 0) (k : VarKind) (i : ℕ) (a b : Tree) (tree : X → Tree) (t : X) → n ≡ m →
@@ -184,7 +211,8 @@ module _ {Key Id Name : Type 0} (r : State Key Id Name) where
       (number_universe was now k i b h sound) (number_full was now k i b h sound)
       (λ j ha hb all. builds_number j b h (subst (IsBuiltOf j) p ha) hb all)
       (inr answer) (subst (λ z. IsTrue (known z)) (sym answer) sure)
-      (λ set c. agree_root set c r.ambient k i a b p (number_sort k b h.fits))
+      (λ set c st g before.
+      root_agreed st was g before set c r.ambient k i a b (h.writes).was_unbound p (number_stands k b h.fits))
 
   pub number_step_back : {X : Type 0} (F : Tree → Type 0) (m n : Meaning Key Id Name) (was now : Store) (L K : Type 0) (k : VarKind) (i : ℕ) (a b : Tree) (tree : X → Tree) (t : X) → n ≡ m →
       IsSound was → (L → K) →
@@ -203,7 +231,8 @@ module _ {Key Id Name : Type 0} (r : State Key Id Name) where
       (number_universe was now k i a h sound) (number_full was now k i a h sound)
       (λ j ha hb all. builds_number j a h (subst (IsBuiltOf j) p hb) ha all)
       (inl answer) (subst (λ z. IsTrue (known z)) (sym answer) sure)
-      (λ set c. agree_root_back set c r.ambient k i a b p (number_sort k a h.fits))
+      (λ set c st g before.
+      root_agreed_back st was g before set c r.ambient k i a b (h.writes).was_unbound p (number_stands k a h.fits))
 
   -- Or the other side is a type that may not stand for it.
   module _ {X : Type 0} (F : Tree → Type 0) (m n : Meaning Key Id Name) (was now : Store) (L K : Type 0)
@@ -243,12 +272,12 @@ module _ {Key Id Name : Type 0} (r : State Key Id Name) where
   -- What is shown of two types as they are read is shown of the types.
   pub parts_step : (m : Meaning Key Id Name) (was : Store) (L K : Type 0) (l : L → K)
       {X : Type 0} (F : Tree → Type 0) (a b : Tree) (tree : X → Tree) (t u : X) → IsSound was →
-      IsReadAs was a (tree t) → IsReadAs was b (tree u) →
+      IsReadAs was a (tree t) → IsReadAs was b (tree u) → ((j : VarKind) (n : ℕ) → F (leaf (variable j n)) → ⊥) →
       Asked solver_manner (standing r m was L) r.ambient (tree t) (tree u) → F (tree t) → F (tree u) →
       (IsDeferred r.kept.settings (tree t) (tree u) → ⊥) →
       Stepped solver_manner F (standing r m was L) (standing r m was K) a b tree (Ok (Parts t u))
   unfolding over_passes
-  parts_step m was L K l F a b tree t u g p q k f h left = record {
+  parts_step m was L K l F a b tree t u g p q formed k f h left = record {
     passes = over_passes (stays_same m) (goes_nowhere _ was) l;
     verdict = record {
       leads = record {
@@ -272,7 +301,11 @@ module _ {Key Id Name : Type 0} (r : State Key Id Name) where
         };
         errors = λ n j c st f l g o. of_entries (read_later was st l a (tree t) p)
             (read_later was st l b (tree u) q) o;
-        agrees = λ set c z. agree_read set c was g r.ambient a b (tree t) (tree u) p q z;
+        agrees = λ st began. (
+          λ z. read_agreed st was began.sound g began.later r.kept.settings (items_of m) r.ambient a b (tree t) (tree u) p
+              q (λ j n e. absurd (formed j n (subst F e f))) (λ j n e. absurd (formed j n (subst F e h))) z,
+          began,
+        );
       };
       asked = record {
         left_known = k.left_known;

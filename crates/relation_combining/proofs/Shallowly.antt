@@ -15,15 +15,16 @@ use Rattle.relation_semantics.specs.Goals.{Goal}
 use Rattle.relation_semantics.specs.Outcomes.{Outcome}
 use Rattle.relation_semantics.specs.Measures.{grown}
 use Rattle.relation_semantics.specs.Errors.{IsReadAs, of_entries}
-use Rattle.relation_semantics.specs.Lawful.{State, Passes, Leads, StepVerdict, ExactVerdict, Stepped, items_in}
+use Rattle.relation_semantics.specs.Lawful.{State, Passes, Leads, StepVerdict, ExactVerdict, Stepped, BeganWith, AgreesIn, items_in}
 use Rattle.relation_semantics.proofs.ReadAs.{read_value, read_later, read_weight}
-use Rattle.relation_semantics.proofs.Agreeing.{agree_read}
+use Rattle.relation_semantics.proofs.AgreeingBefore.{read_agreed}
 use Rattle.relation_semantics.proofs.Going.{later_through, goes_within}
 use Rattle.relation_semantics.proofs.Full.{read_plain}
 use Rattle.relation_semantics.specs.Alphabets.{BuiltFrom}
 use Rattle.relation_semantics.proofs.Building.{built_read}
 use Rattle.relation_semantics.proofs.Standing.{made_of_term}
-use Rattle.relation_semantics.specs.Resolving.{IsShallowConst, const_root, no_variable}
+use Rattle.relation_semantics.specs.Resolving.{IsShallow, root, stays_bound, formed, IsShallowConst, const_root, no_variable}
+use Rattle.relation_semantics.specs.Parts.{IsFormed}
 use Rattle.relation_combining.specs.Solving.{solver_manner}
 use Rattle.relation_combining.proofs.Exactly.{read_pair, step_read, exact_read, apart_read, unified_read}
 use Rattle.relation_semantics.specs.OneUniverse.{LeadsInUniverse}
@@ -40,13 +41,33 @@ shallow_free_const st n t e (const_root m d f) =
     same_number : m ≡ n
     same_number = let h : leaf (variable const_var m) ≡ leaf (variable const_var n) = sym d ∙ e in cc
 
+pub shallow_const_free : (st : Store) (t : Tree) → IsShallowConst st t → (k : VarKind) (n : ℕ) → t ≡ leaf (variable k n) →
+    entry_of st k n ≡ unbound
+shallow_const_free st t (const_root m d f) k n e =
+    free_entry st k n (subst₂ (λ j p. bound_term st j p ≡ None) (cc (d, e)) (cc (d, e)) f)
+shallow_const_free st t (no_variable o) k n e = absurd (o k n e)
+
+pub shallow_ty_free : (st : Store) (t : Tree) → IsShallow st t → (k : VarKind) (n : ℕ) → t ≡ leaf (variable k n) →
+    entry_of st k n ≡ unbound
+shallow_ty_free st t (root j m d f) k n e =
+    free_entry st k n (subst₂ (λ j p. bound_term st j p ≡ None) (cc (d, e)) (cc (d, e)) f)
+shallow_ty_free st t (stays_bound q d i o) k n e = absurd (cc (o, e))
+shallow_ty_free st t (formed f) k n e = absurd (subst IsFormed e f)
+
 -- A variable that a term of the context is is the context's.
 pub variable_made : (st : Store) (k : VarKind) (n : ℕ) (t : Tree) → t ≡ leaf (variable k n) → IsTermIn st t →
     IsMade st k n
 variable_made st k n t e h = made_of_term st k n (subst (IsTermIn st) e h)
 
 module _ {Key Id Name : Type 0} (r q : State Key Id Name) (g : IsSound r.store) (a b u w : Tree)
-    (p : IsReadAs r.store a u) (o : IsReadAs r.store b w) where
+    (p : IsReadAs r.store a u) (o : IsReadAs r.store b w)
+    (u_free : (k : VarKind) (n : ℕ) → u ≡ leaf (variable k n) → entry_of r.store k n ≡ unbound)
+    (w_free : (k : VarKind) (n : ℕ) → w ≡ leaf (variable k n) → entry_of r.store k n ≡ unbound) where
+  -- They agree by what relating may have begun with, if they do as they are read.
+  as_agreed : (st : Store) → BeganWith r st → AgreesIn r st (at r.ambient) u w → AgreesIn r st (at r.ambient) a b
+  as_agreed st began z = read_agreed st r.store began.sound g began.later r.kept.settings (items_in r) r.ambient a b u w p o
+      u_free w_free z
+
   value_a : (i : Interpretation) (s : Assign) → Satisfies i r.store s → apply s a ≡ apply s u
   value_a i s sat = read_value r.store s sat.bindings a u p
 
@@ -80,7 +101,7 @@ module _ {Key Id Name : Type 0} (r q : State Key Id Name) (g : IsSound r.store) 
     };
     errors = λ m j c st e l g z. of_entries (read_later r.store st (later_through (h.steps).later l) a u p)
         (read_later r.store st (later_through (h.steps).later l) b w o) (h.errors m j c st e l g z);
-    agrees = λ set c z. agree_read set c r.store g r.ambient a b u w p o (h.agrees set c z);
+    agrees = λ st began. let z = h.agrees st began in (λ x. as_agreed st began (z.0 x), z.1);
   }
 
   read_built : (x y : Tree) → BuiltFrom r.store u w x y → BuiltFrom r.store a b x y
@@ -104,7 +125,7 @@ module _ {Key Id Name : Type 0} (r q : State Key Id Name) (g : IsSound r.store) 
               (sym (value_a i s (shrinks i s sat))) ((h.answer).related i s sat all);
         };
         known = h.known;
-        agrees = λ k. agree_read r.kept.settings (items_in r) r.store g r.ambient a b u w p o (h.agrees k);
+        agrees = λ k st began. let z = h.agrees k st began in (as_agreed st began z.0, z.1);
       }
       read_verdict (Ok (Parts x y)) h = record {
         leads = read_leads passes.added r.ambient (tree x) (tree y) h.leads;

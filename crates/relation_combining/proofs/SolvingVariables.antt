@@ -43,7 +43,7 @@ use Rattle.relation_semantics.specs.Contexts.{Context}
 use Rattle.relation_semantics.specs.ContextCalls.{Instantiated, ObstacleError, BindingsAreWellBound}
 use Rattle.relation_combining.specs.Solving.{solver_manner}
 use Rattle.relation_goals.specs.Emitting.{RegistersGoal}
-use Rattle.relation_combining.proofs.GoalPasses.{goal_passes, no_goal_passes}
+use Rattle.relation_combining.proofs.GoalPasses.{goal_passes, no_goal_passes, begins_asking}
 use Rattle.relation_semantics.proofs.Answering.{covariantly, may_itself}
 use Rattle.relation_combining.proofs.Constants.{fixed, constants_at_each_variance}
 use Rattle.relation_combining.proofs.ConstErrors.{const_error_alike}
@@ -52,8 +52,9 @@ use Rattle.relation_semantics.proofs.Going.{goes_nowhere, goes_within, grown-mon
 use Rattle.relation_semantics.proofs.Keeping.{one_same, one_of_all, unified_same, adding_keeps, adding_keeps_erased}
 use Rattle.relation_semantics.proofs.ReadAs.{read_later}
 use Rattle.relation_semantics.proofs.Resolved.{resolved_free, resolved_weight}
-use Rattle.relation_semantics.proofs.Standing.{later_term, later_context, term_context, term_of_made, term_sort_of}
-use Rattle.relation_semantics.proofs.Agreeing.{stands_sort, agree_root, agree_root_back}
+use Rattle.relation_semantics.proofs.Standing.{later_term, later_context, term_context, term_of_made}
+use Rattle.relation_semantics.proofs.AgreeingBefore.{root_agreed, root_agreed_back}
+use Rattle.relation_semantics.proofs.Beginning.{begins_by}
 use Rattle.relation_semantics.proofs.Opening.{instantiating_steps}
 use Rattle.relation_semantics.proofs.Exactness.{instantiating_is_exact_step}
 use Rattle.relation_semantics.proofs.AliasSteps.{no_larger}
@@ -275,7 +276,11 @@ module _ {Key Id Name : Type 0} (r0 : State Key Id Name) (L K : Type 0) (lawful 
         keeps = (both.0).keeps;
       };
       errors = λ i j c st f h g o. of_entries (read_later now st h root u root_reads) (itself refl) (l.errors i j c st f g o);
-      agrees = λ set c z. agree_root set c v k target root t refl (stands_sort k t stands);
+      agrees = λ st began. (
+        λ z. root_agreed st was began.sound began.later r0.kept.settings (items_of c.meaning) v k target root t
+            steps.was_unbound refl stands,
+        begins_by r q grown steps.later refl refl st began,
+      );
     }
 
     right_leads : (w : Variance) → Lifts Key Id Name now w v t u → Leads r q [] t root w t u
@@ -288,7 +293,11 @@ module _ {Key Id Name : Type 0} (r0 : State Key Id Name) (L K : Type 0) (lawful 
         keeps = (both.1).keeps;
       };
       errors = λ i j c st f h g o. of_entries (itself refl) (read_later now st h root u root_reads) (l.errors i j c st f g o);
-      agrees = λ set c z. agree_root_back set c v k target t root refl (stands_sort k t stands);
+      agrees = λ st began. (
+        λ z. root_agreed_back st was began.sound began.later r0.kept.settings (items_of c.meaning) v k target t root
+            steps.was_unbound refl stands,
+        begins_by r q grown steps.later refl refl st began,
+      );
     }
 
     exactly : IsFirstOrder t → IsFirstOrderStore was → ExactStep was now root t u t × ExactStep was now t root t u
@@ -502,9 +511,6 @@ module _ {Key Id Name : Type 0} (r0 : State Key Id Name) (L K : Type 0) (lawful 
     u_context : InContext d.store u
     u_context = term_context d.store u is_bound.term_in
 
-    root_sort : sort_of t ≡ type_sort
-    root_sort = term_sort_of type_var t stands
-
     not_first : IsFirstOrder t → ⊥
     not_first = alias_not_first t left
 
@@ -529,7 +535,11 @@ module _ {Key Id Name : Type 0} (r0 : State Key Id Name) (L K : Type 0) (lawful 
               (subst (λ z. alias_at r0.ambient z t ≡ Some pred) is e));
           answer = subst (MayAnswer solver_manner p r0.ambient lone) (sym answer) (may_itself solver_manner p r0.ambient lone);
           known = subst (λ z. IsTrue (known z)) (sym answer) refl;
-          agrees = λ o. agree_root r0.kept.settings (items_of c.meaning) r0.ambient type_var target lone t refl root_sort;
+          agrees = λ o st began. (
+            root_agreed st c.store began.sound began.later r0.kept.settings (items_of c.meaning) r0.ambient type_var target
+                lone t is_bound.was_unbound refl stands,
+            begins_asking pred h st (begins_by ra qa grown is_bound.later refl refl st began),
+          );
         };
         exact = λ o same pair. absurd (not_first pair.right);
         full = λ ha hb. full_could instantiates;
@@ -551,7 +561,11 @@ module _ {Key Id Name : Type 0} (r0 : State Key Id Name) (L K : Type 0) (lawful 
               (subst (λ z. alias_at r0.ambient t z ≡ Some pred) is e));
           answer = subst (MayAnswer solver_manner p r0.ambient t) (sym answer) (may_itself solver_manner p r0.ambient t);
           known = subst (λ z. IsTrue (known z)) (sym answer) t_known;
-          agrees = λ o. agree_root_back r0.kept.settings (items_of c.meaning) r0.ambient type_var target t lone refl root_sort;
+          agrees = λ o st began. (
+            root_agreed_back st c.store began.sound began.later r0.kept.settings (items_of c.meaning) r0.ambient type_var
+                target t lone is_bound.was_unbound refl stands,
+            begins_asking pred h st (begins_by ra qa grown is_bound.later refl refl st began),
+          );
         };
         exact = λ o same pair. absurd (not_first pair.left);
         full = λ ha hb. full_could instantiates;

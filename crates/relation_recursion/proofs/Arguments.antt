@@ -187,7 +187,7 @@ module _ {Key Id Name : Type 0} {r q : State Key Id Name} (M : Manners) (v : Var
       };
       answer = subst (MayAnswer M q v (node h ts)) (sym answer) (may_itself M q v (node h ts));
       known = subst (λ u. IsTrue (known u)) (sym answer) sure;
-      agrees = λ k. inr (alike, fronted_agree h v i ts us e (e ∙ n) f k);
+      agrees = λ k st began. let z = fronted_agree h v i ts us are e (e ∙ n) f k st began in (inr (alike, z.0), z.1);
     };
     exact = λ exact is' pair.
         answered_as r.store q.store (node h ts) (node k us) ts us

@@ -23,8 +23,7 @@ use Rattle.relation_semantics.specs.Measures.{grown, depth, Goes}
 use Rattle.relation_semantics.specs.Steps.{HasNoBinder}
 use Rattle.relation_semantics.specs.Alphabets.{Alphabet, IsBuiltOf, StaysBuilt, MayBind}
 use Rattle.relation_semantics.specs.Errors.{ErrorOf}
-use Rattle.relation_semantics.specs.Agreeing.{Agree}
-use Rattle.relation_semantics.specs.Lawful.{State, Manners, MayAnswer, Passes, Asked, Refuses, Related, items_in}
+use Rattle.relation_semantics.specs.Lawful.{State, Manners, MayAnswer, Passes, Asked, Refuses, Related, BeganWith, AgreesIn, items_in}
 use Rattle.relation_semantics.specs.Parts.{IsBinderPart}
 use Rattle.relation_steps.specs.Rounds.{OneRound, StepsToBodies, RoundSteps, one_round, first_round, second_round}
 use Rattle.relation_steps.specs.Rounds.{RoundLeads, Opened}
@@ -32,7 +31,8 @@ use Rattle.relation_semantics.proofs.Standing.{term_context}
 use Rattle.relation_semantics.proofs.Going.{grown-mono, le_grown, depth-strict, depth_later, le_square, weight_cons}
 use Rattle.relation_semantics.proofs.Full.{first_order_plain, full_never}
 use Rattle.relation_semantics.proofs.Building.{built_led, built_then, needs_led}
-use Rattle.relation_semantics.proofs.Answering.{may_itself, same_items, same_settings}
+use Rattle.relation_semantics.proofs.Answering.{may_itself}
+use Rattle.relation_semantics.proofs.Beginning.{begins_on, agrees_then}
 use Rattle.relation_semantics.proofs.Composing.{steps_compose, values_still, agree_through}
 use Rattle.relation_semantics.proofs.Keeping.{one_inside, one_led, one_of_all, one_outcome, one_then_all}
 use Rattle.relation_semantics.proofs.AskingSince.{built_unbound_term}
@@ -207,7 +207,8 @@ pub record HalfDone {Key Id Name : Type 0} (M : Manners) (r p : State Key Id Nam
   pub room : weight p.store a + weight p.store b ≤
       grown (passes.goes).spent (weight r.store a + weight r.store b)
   pub built : StaysBuilt r.store p.store passes.added a b
-  pub agrees : (M r.kept.settings).relates_agreeing → Agree r.kept.settings (items_in r) (at r.ambient) a b
+  pub agrees : (M r.kept.settings).relates_agreeing → (st : Store) → BeganWith r st →
+      AgreesIn r st (at r.ambient) a b × BeganWith p st
 
 module _ {Key Id Name : Type 0} where
   -- Opening was refused in round 0.
@@ -289,9 +290,10 @@ module _ {Key Id Name : Type 0} where
     begun = begun l.steps;
     room = room (passes_then g f.passes (round_small M 0 a b x y g l)) (binders l.steps);
     built = built_led g.added (f.passes).added a b x y built l.built f.built;
-    agrees = λ k. l.agrees r.kept.settings (items_in r) (subst₂ (λ z c. Agree z c (at r.ambient) x y)
-        (same_settings g.kept) (same_items g)
-        ((f.verdict).agrees (manner_then M (λ z. z.relates_agreeing) g k)));
+    agrees = λ k st began.
+        let led = l.agrees st began in
+        let z = (f.verdict).agrees (manner_then M (λ z. z.relates_agreeing) g k) st led.1 in
+        (led.0 (agrees_then g st (at r.ambient) x y z.0), z.1);
   }
     where
       bodies : Outcome (items_in r) r.kept.environment (at r.ambient) q.store p.store (r.goals ++ g.added)
@@ -360,7 +362,8 @@ module _ {Key Id Name : Type 0} where
           (sym (append-nil (h.passes).added)) (whole h.begun));
       answer = subst (MayAnswer M q r.ambient a) (sym e) (may_itself M q r.ambient a);
       known = subst (λ t. IsTrue (known t)) (sym e) k;
-      agrees = h.agrees;
+      agrees = λ promised st began. let z = h.agrees promised st began in
+          (z.0, begins_on o.passes (o.verdict).4 st z.1);
     };
     exact = λ j is pair. absurd (never (first_order_plain a pair.left));
     full = full_never a b never;
@@ -525,7 +528,12 @@ module _ {Key Id Name : Type 0} where
             (f.verdict).outcome;
         answer = subst (MayAnswer M z r.ambient a) (sym e) (may_itself M z r.ambient a);
         known = subst (λ t. IsTrue (known t)) (sym e) k.left_known;
-        agrees = h.agrees;
+        agrees = λ promised st began.
+            let half = h.agrees promised st began in
+            let led = l.agrees st half.1 in
+            let z = (f.verdict).agrees (manner_then M (λ z. z.relates_agreeing) (passes_then h.passes g h.room) promised)
+            st led.1 in
+            (half.0, z.1);
       };
       exact = λ j is pair. absurd (never (first_order_plain a pair.left));
       full = full_never a b never;

@@ -44,8 +44,7 @@ use Rattle.relation_semantics.proofs.Building.{built_itself, built_const_parts}
 use Rattle.relation_steps.proofs.Fronts.{fronted_agree, fronted_keeps}
 use Rattle.relation_semantics.proofs.Keeping.{one_so_far, unified_inside}
 use Rattle.relation_semantics.proofs.AskingSince.{const_no_more, no_more_same}
-use Rattle.relation_semantics.proofs.Agreeing.{agree_same, agree_flexible}
-use Rattle.relation_semantics.specs.Agreeing.{IsFlexible}
+use Rattle.relation_semantics.proofs.AgreeingBefore.{same_agreed}
 use Rattle.relation_semantics.proofs.AgreeingForms.{const_agrees}
 use Rattle.relation_semantics.proofs.Full.{full_itself, const_parts_plain}
 use Rattle.relation_recursion.proofs.Unifying.{first_order_const_parts, const_looked_at, consts_unify, answered_as, refused_as}
@@ -59,7 +58,7 @@ use Rattle.relation_recursion.proofs.PartSizes.{weight_const_parts_most}
 use Rattle.relation_semantics.proofs.Answering.{same_items, may_itself, covariantly}
 use Rattle.relation_semantics.proofs.AliasOutcomes.{error_stays}
 use Rattle.relation_semantics.proofs.Erased.{error_not_first}
-use Rattle.relation_steps.proofs.Errors.{error_flexible}
+use Rattle.relation_steps.proofs.Errors.{error_agreed}
 
 -- The error of two parts of two constants as the error of the constants.
 module _ {Key Id Name : Type 0} (p : Meaning Key Id Name) (set : Settings) (js : Items) (at_v : Variance) (c d : ConstKey Key) (i : ℕ)
@@ -305,8 +304,9 @@ module _ {Key Id Name : Type 0} {r q : State Key Id Name} (M : Manners) (v : Var
       };
       answer = subst (MayAnswer M q v a) (sym answer) (may_itself M q v a);
       known = subst (λ u. IsTrue (known u)) (sym answer) k;
-      agrees = λ k. const_agrees r.kept.settings (items_in r) v a b o
-          (fronted_agree (const_head_of a) v i (const_parts_of a) (const_parts_of b) ea eb f k);
+      agrees = λ k st began.
+          let z = fronted_agree (const_head_of a) v i (const_parts_of a) (const_parts_of b) are ea eb f k st began in
+          (const_agrees r.kept.settings (items_in r) st v a b o z.0, z.1);
     };
     exact = λ exact is pair.
         answered_as r.store q.store a b (const_parts_of a) (const_parts_of b) (consts_unify a b fa fb o)
@@ -354,7 +354,7 @@ module _ {Key Id Name : Type 0} {X : Type 0} (M : Manners) (r : State Key Id Nam
       };
       answer = subst (MayAnswer M r v a) (sym answer) (may_itself M r v a);
       known = subst (λ u. IsTrue (known u)) (sym answer) k;
-      agrees = λ k. agree_same r.kept.settings (items_in r) v a b e;
+      agrees = λ k st began. (same_agreed r.kept.settings (items_in r) st v a b e, began);
     };
     exact = λ exact is pair.
         (pair.bindings, exact_itself r.store a b e, keeps_pair r.store r.store a b (keeps_itself r.store));
@@ -403,7 +403,8 @@ module _ {Key Id Name : Type 0} {X : Type 0} (M : Manners) (r : State Key Id Nam
         };
         answer = subst (MayAnswer M r v a) (sym answer) may;
         known = subst (λ t. IsTrue (known t)) (sym answer) known_u;
-        agrees = λ k. agree_flexible r.kept.settings (items_in r) v a b (either is, one_sort);
+        agrees = λ k st began.
+            (error_agreed r.kept.settings (items_in r) st began.sound v a b is one_sort, began);
       };
       exact = λ exact is' pair. absurd (not_first is pair);
       full = λ ha hb. full_itself r.store;
@@ -417,10 +418,6 @@ module _ {Key Id Name : Type 0} {X : Type 0} (M : Manners) (r : State Key Id Nam
         not_plain : IsError a ⊎ IsError b → AreBare r.kept.settings a b → ⊥
         not_plain (inl e) bare = error_not_plain a e bare.left_plain
         not_plain (inr e) bare = error_not_plain b e bare.right_plain
-
-        either : IsError a ⊎ IsError b → IsFlexible a ⊎ IsFlexible b
-        either (inl e) = inl (error_flexible a e)
-        either (inr e) = inr (error_flexible b e)
 
         not_first : IsError a ⊎ IsError b → IsFirstOrderPair r.store a b → ⊥
         not_first (inl e) pair = error_not_first a e pair.left

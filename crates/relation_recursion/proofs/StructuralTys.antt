@@ -312,8 +312,9 @@ module _ {Key Id Name : Type 0} {r q : State Key Id Name} (M : Manners) (v : Var
       };
       answer = subst (MayAnswer M q v a) (sym answer) (may_itself M q v a);
       known = subst (λ u. IsTrue (known u)) (sym answer) k;
-      agrees = λ k. form_agrees r.kept.settings (items_in r) v a b o
-          (fronted_agree (head_of a) v i (direct_parts a) (direct_parts b) ea eb f k);
+      agrees = λ k st began.
+          let z = fronted_agree (head_of a) v i (direct_parts a) (direct_parts b) are ea eb f k st began in
+          (form_agrees r.kept.settings (items_in r) st v a b o z.0, z.1);
     };
     exact = λ exact is pair.
         answered_as r.store q.store a b (direct_parts a) (direct_parts b)

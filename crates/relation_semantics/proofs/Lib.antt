@@ -40,6 +40,8 @@ pub mod GeneralisingOnce
 pub mod OneUniverse
 pub mod Answering
 pub mod AgreeingForms
+pub mod AgreeingBefore
+pub mod Beginning
 pub mod Roots
 pub mod Numbers
 pub mod Variables

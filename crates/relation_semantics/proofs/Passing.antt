@@ -19,7 +19,7 @@ use Rattle.relation_folds.specs.Faults.{KnowsError}
 use Rattle.relation_semantics.specs.Errors.{ErrorOf, by_forms, IsDeferred, Meeting, as_pair, as_forms}
 use Rattle.relation_semantics.specs.Asking.{Wanted, AsksFor}
 use Rattle.relation_semantics.specs.Recording.{AreBare, AsksNoMore, LeadsAsking}
-use Rattle.relation_semantics.specs.Agreeing.{Agree}
+use Rattle.relation_semantics.specs.Agreeing.{AgreeIn}
 use Rattle.relation_semantics.specs.Stores.{Store, IsSound, Satisfies, all_bound, weight}
 use Rattle.relation_semantics.specs.Goals.{Goal, GoalInContext, IsDirected, Holds, Relates, Request, asked, asks_too_much, asks_nothing, IsQuiet, AsksNoPair, HasOneTree, MakesOneTree}
 use Rattle.relation_semantics.specs.Outcomes.{Outcome, CarriesOver, NeverOne, Exact, ExactStep, KeepsOne, KeepsUnified}
@@ -29,7 +29,7 @@ use Rattle.relation_semantics.specs.Steps.{IsLater, StaysFullFor}
 use Rattle.relation_semantics.specs.Alphabets.{StaysBuilt, BuiltFrom, NeedsVariable, IsGoalOf}
 use Rattle.relation_semantics.specs.Measures.{grown, Goes}
 use Rattle.relation_semantics.specs.Lawful.{State, Manner, Manners, Takes, MayAnswer, Passes, Asked, Refuses, Answers, Verdict, Related, Leads}
-use Rattle.relation_semantics.specs.Lawful.{RefusesAs, VerdictAs, RelatedAs, RelatedForms, Pair, MeansPair}
+use Rattle.relation_semantics.specs.Lawful.{RefusesAs, VerdictAs, RelatedAs, RelatedForms, Pair, MeansPair, MayBegin, BeganWith, AgreesIn}
 use Rattle.relation_semantics.specs.Lawful.{RecordsJust, RecordsJustAsked, RecordsNoMore, RecordsAs, RecordsOf}
 use Rattle.relation_semantics.proofs.Asking.{nothing_at_bivariance}
 use Rattle.relation_semantics.proofs.Recording.{bare_no_alias, stands_itself, turned_stands, grown_stands, records_trivial}
@@ -47,7 +47,8 @@ use Rattle.relation_semantics.proofs.Building.{built_itself, built_led, needs_le
 use Rattle.relation_semantics.proofs.Composing.{steps_compose, first_goals}
 use Rattle.relation_semantics.proofs.Growing.{All_front}
 use Rattle.relation_semantics.proofs.Standing.{later_term}
-use Rattle.relation_semantics.proofs.Agreeing.{agree_anything}
+use Rattle.relation_semantics.proofs.AgreeingBefore.{anything_agreed}
+use Rattle.relation_semantics.proofs.Beginning.{begins_noting, begins_grown, agrees_then, agrees_now}
 use Rattle.relation_semantics.proofs.Answering.{same_environment, same_settings, same_items, may_itself, may_later, if_ok_both}
 use Rattle.relation_semantics.specs.OneUniverse.{KeepsUniverse, KeepsUniverseOf, LeadsInUniverse, BindsNoMore}
 use Rattle.relation_semantics.proofs.OneUniverse.{keeps_itself, keeps_binds, kept_then, binds_as_many, leads_itself, led_keeps, led_binds, led_fewer}
@@ -153,11 +154,13 @@ module _ {Key Id Name : Type 0} where
       a b x y l.steps).0 (outcome_seen g (at v) p.store f.added x y o)
 
   -- So the pair that it was asked about agrees if the one that is left does.
-  pub led_agrees : {n : ℕ} {r q : State Key Id Name} (g : Passes n r q) (a b x y : Tree) (v : Variance) →
-      Leads r q g.added a b v x y → Agree q.kept.settings (items_in q) (at v) x y →
-      Agree r.kept.settings (items_in r) (at r.ambient) a b
-  led_agrees {r = r} g a b x y v l h = l.agrees r.kept.settings (items_in r)
-      (subst₂ (λ k c. Agree k c (at v) x y) (same_settings g.kept) (same_items g) h)
+  pub led_agrees : {n : ℕ} {r q : State Key Id Name} (g : Passes n r q) (p : State Key Id Name) (a b x y : Tree)
+      (v : Variance) → Leads r q g.added a b v x y → ((st : Store) → BeganWith q st → AgreesIn q st (at v) x y × BeganWith p st) →
+      (st : Store) → BeganWith r st → AgreesIn r st (at r.ambient) a b × BeganWith p st
+  led_agrees g p a b x y v l h st began =
+      let led = l.agrees st began in
+      let z = h st led.1 in
+      (led.0 (agrees_then g st (at v) x y z.0), z.1)
 
   pub led_refuses : {n m : ℕ} {r q p : State Key Id Name} (g : Passes n r q) (f : Passes m q p) → IsSound p.store →
       (a b x y : Tree) (v : Variance) → Leads r q g.added a b v x y → StaysBuilt r.store q.store g.added a b →
@@ -349,7 +352,7 @@ module _ {Key Id Name : Type 0} where
               (l.answers (tree t)) w s sat all ((v.answer).related w s sat all);
         };
         known = v.known;
-        agrees = λ k. led_agrees g a b x y r.ambient l.leads (v.agrees (manner_then M (λ z. z.relates_agreeing) g k));
+        agrees = λ k. led_agrees g p a b x y r.ambient l.leads (v.agrees (manner_then M (λ z. z.relates_agreeing) g k));
       }
       verdict (Err e) v = led_refuses g f.passes sound a b x y r.ambient l.leads built l.built e
           (met_refuses q p r.ambient x y (subst (λ k. IsDeferred k x y → ⊥) (sym (same_settings (f.passes).kept)) l.not_left) e v)
@@ -379,7 +382,7 @@ module _ {Key Id Name : Type 0} where
               sat all (relates_by (xform r.ambient v) x y f.passes (f.verdict).outcome w s sat all);
         });
         known = subst (λ t. IsTrue (known t)) (sym e) led.answer_known;
-        agrees = λ k. led_agrees g a b x y (xform r.ambient v) led.leads
+        agrees = λ k. led_agrees g p a b x y (xform r.ambient v) led.leads
             ((f.verdict).agrees (manner_then M (λ z. z.relates_agreeing) g k));
       };
       exact = exact_led {X = Y} (M r.kept.settings) r.store q.store p.store a b x y r.ambient (xform r.ambient v)
@@ -493,15 +496,17 @@ module _ {Key Id Name : Type 0} where
 
     pub noted_related : (answer : X → Tree) → answer t ≡ tree t → ((M r.kept.settings).records_asked →
         AreBare r.kept.settings a b → (x ≡ a) × (y ≡ b) × (q.ambient ≡ v)) →
+        ((M r.kept.settings).relates_agreeing → (st : Store) → BeganWith r st → AgreesIn q st (at q.ambient) x y) →
         RelatedAs w M r p (at v) a b answer (Ok t)
     unfolding passes_then both
-    noted_related answer e same = record {
+    noted_related answer e same agreed = record {
       passes = both;
       verdict = record {
         outcome = outcome;
         answer = subst (MayAnswer M p v a) (sym e) (may_later M v a (tree t) h.passes (f.verdict).answer);
         known = subst (λ u. IsTrue (known u)) (sym e) (f.verdict).known;
-        agrees = (f.verdict).agrees;
+        agrees = λ k st began. let z = (f.verdict).agrees k st began in
+            (z.0, begins_noting h st (agreed k st began) z.1);
       };
       exact = λ k is pair. let z = f.exact k is pair in (
         subst IsFirstOrderStore (sym h.store) z.0,
@@ -536,6 +541,12 @@ module _ {Key Id Name : Type 0} where
         refuses : (e : RelateFault Key Id Name) → OnlyMemory {X = Y} (Err e) → RefusesAs w r p (at v) a b e
         refuses Memory k = one_outcome outcome
         refuses e k = absurd k
+
+  -- Relating may have begun with what it may have, at another ambient variance.
+  begins_turned : {v : Variance} {r t : State Key Id Name} → Turned v r t → (st : Store) → BeganWith r st → BeganWith t st
+  begins_turned {r = r} {t = t} there st h = subst₂ (λ k m. MayBegin k.settings m t.store t.remembered st) (sym there.kept)
+      (sym there.meaning) (subst₂ (λ now ps. MayBegin r.kept.settings r.meaning now ps st) (sym there.store)
+      (sym there.remembered) h)
 
   -- Another ambient variance, and the old one again.
   module _ {X : Type 0} {r t q u : State Key Id Name} (M : Manners) (v : Variance) (a b : Tree) (tree : X → Tree)
@@ -579,8 +590,12 @@ module _ {Key Id Name : Type 0} where
             (subst₂ (λ m gs. All (Holds (items_of m) w s) gs) back.meaning back.goals all));
       };
       known = h.known;
-      agrees = λ k. subst₂ (λ j m. Agree j (items_of m) (at v) a b) (same_settings there.kept) there.meaning
-          (h.agrees (subst (λ j. (M j).relates_agreeing) (sym (same_settings there.kept)) k));
+      agrees = λ k st began.
+          let z = h.agrees (subst (λ j. (M j).relates_agreeing) (sym (same_settings there.kept)) k) st
+          (begins_turned there st began) in (
+            subst₂ (λ j m. AgreeIn j (items_of m) st (at v) a b) (same_settings there.kept) there.meaning z.0,
+            begins_turned back st z.1,
+          );
     }
 
     pub turned : (result : Result X (RelateFault Key Id Name)) → Related M t q v a b tree result →
@@ -629,7 +644,7 @@ module _ {Key Id Name : Type 0} where
       };
       answer = subst (MayAnswer M r v a) (sym same) (may_itself M r v a);
       known = subst (λ u. IsTrue (known u)) (sym same) k;
-      agrees = λ j. agree_anything r.kept.settings (items_in r) v a b e;
+      agrees = λ j st began. (anything_agreed r.kept.settings (items_in r) st v a b e, began);
     };
     exact = λ k is pair. absurd (invariant_is_not (sym is ∙ e));
     full = λ ha hb. full_itself r.store;
@@ -693,7 +708,7 @@ module _ {Key Id Name : Type 0} where
             (f.verdict).outcome;
         answer = may_with M v a (answer z) e w value;
         known = sure;
-        agrees = (f.verdict).agrees;
+        agrees = λ k st began. let z = (f.verdict).agrees k st began in (z.0, begins_grown e w st z.1);
       };
       exact = λ k is pair. subst (λ s. IsFirstOrderStore s × Exact r.store s a b × KeepsUniverseOf r.store s a b)
           (sym w.store) (f.exact k is pair);
@@ -817,8 +832,6 @@ module _ {Key Id Name : Type 0} where
         let o = exact (same_manner M (λ z. z.is_exact) g k) is
         (record { left = pair.left; right = pair.right; bindings = bindings }) in
         ((o.1).shrinks s sol).1;
-    agrees = λ k. subst₂ (λ j c. Agree j c (at v) a b) (sym (same_settings g.kept)) (sym (same_items g))
-        (verdict.agrees (same_manner M (λ z. z.relates_agreeing) g k));
   }
 
   -- So are the terms as a step read them, when the pair that it left is related.
@@ -850,10 +863,29 @@ module _ {Key Id Name : Type 0} where
         (record { left = pair.left; right = pair.right; bindings = bindings }) in
         let one = ((f.exact promised (xform_invariant _ v is) read.0).1).shrinks s sol in
         ((read.1).shrinks s one.0 one.1).1;
-    agrees = λ z. (led.read_leads).agrees p.kept.settings (items_in p)
-        (subst₂ (λ j c. Agree j c (at (xform r.ambient v)) x y) (sym (same_settings (f.passes).kept))
-        (sym (same_items f.passes)) ((f.verdict).agrees (same_manner M (λ z. z.relates_agreeing) f.passes z)));
   }
+
+  -- They agree then, by what relating may have begun with.
+  pub related_agrees : {X : Type 0} {w : Meeting} {r q : State Key Id Name} (M : Manners) (v : Variance) (a b : Tree)
+      (tree : X → Tree) (t : X) → RelatedAs w M r q (at v) a b tree (Ok t) → v ≡ r.ambient → {x y : Tree} → x ≡ a →
+      y ≡ b → (M r.kept.settings).relates_agreeing → (st : Store) → BeganWith r st → AgreesIn q st (at q.ambient) x y
+  related_agrees {q = q} M v a b tree t f is {x} {y} i j promised st began =
+      subst₂ (AgreesIn q st (at q.ambient)) (sym i) (sym j)
+      (subst (λ w. AgreesIn q st (at w) a b) (is ∙ sym (f.passes).ambient)
+      (agrees_now f.passes st (at v) a b ((f.verdict).agrees promised st began).0))
+
+  pub again_agreed : {X : Type 0} {r q p : State Key Id Name} (M : Manners) (a b k l x y u : Tree) (v : Variance)
+      (g : Passes (weight r.store a + weight r.store b) r q) (led : LeadsAgain M r q g.added a b k l v x y u)
+      (exactly : LeadsExactly M r q a b x y) (built : StaysBuilt r.store q.store g.added a b) (tree : X → Tree) (t : X) →
+      Related M q p (xform r.ambient v) x y tree (Ok t) → {i j : Tree} → i ≡ k → j ≡ l →
+      (M r.kept.settings).relates_agreeing → (st : Store) → BeganWith r st → AgreesIn p st (at p.ambient) i j
+  unfolding passes_then
+  again_agreed {r = r} {q = q} {p = p} M a b k l x y u v g led exactly built tree t f c d promised st began =
+      let both = passes_then g f.passes (small M a b k l x y u v g led exactly built) in
+      subst₂ (AgreesIn p st (at p.ambient)) (sym c) (sym d)
+      (subst (λ w. AgreesIn p st (at w) k l) (sym both.ambient) (agrees_now both st (at r.ambient) k l
+      (led_agrees g p k l x y (xform r.ambient v) led.read_leads
+      ((f.verdict).agrees (manner_then M (λ z. z.relates_agreeing) g promised)) st began).0))
 
 -- A step that leaves the pair as it is.
 module _ {Key Id Name K : Type 0} (M : Manners) (F : Tree → Type 0) (r : State Key Id Name) (tree : K → Tree) where
@@ -871,7 +903,7 @@ module _ {Key Id Name K : Type 0} (M : Manners) (F : Tree → Type 0) (r : State
           keeps = λ w s sat one. (s, (λ j i h. refl), (sat, All-nil (MakesOneTree s), one));
         };
         errors = λ m j c st e l g h. h;
-        agrees = λ j c h. h;
+        agrees = λ st began. (λ h. h, began);
       };
       asked = k;
       left_form = f;

@@ -14,7 +14,6 @@ use Rattle.relation_semantics.specs.AskedAlone.{AsksAlone}
 use Rattle.relation_semantics.specs.FirstOrder.{IsFirstOrderStore}
 use Rattle.relation_semantics.specs.Relation.{Items, at}
 use Rattle.relation_semantics.specs.Goals.{Goal, goal_of, GoalInContext, Holds, IsQuiet, MakesOneTree, Relates}
-use Rattle.relation_semantics.specs.Agreeing.{Agree}
 use Rattle.relation_semantics.specs.Alphabets.{IsGoalOf, StaysBuilt}
 use Rattle.relation_semantics.specs.Measures.{Goes}
 use Rattle.relation_semantics.specs.OneUniverse.{BindsNoMore, KeepsUniverseOf}
@@ -23,8 +22,9 @@ use Rattle.relation_semantics.specs.Settings.{Settings}
 use Rattle.relation_semantics.specs.Steps.{IsLater, StaysFullFor}
 use Rattle.relation_semantics.specs.Stores.{Store}
 use Rattle.relation_semantics.specs.Lawful.{State, Pair, Manner, Manners, Passes, IsShown, Shown, WasRelated, WereRelated, RemembersAtMost, Noted, OnlyMemory, MeansPair}
-use Rattle.relation_semantics.specs.Lawful.{Stepped, ExactlyRelated, RegisteredIn, declared_by, items_of, items_in}
-use Rattle.relation_semantics.proofs.Answering.{relates_still, same_items, same_settings, may_itself}
+use Rattle.relation_semantics.specs.Lawful.{Stepped, ExactlyRelated, RegisteredIn, BeganWith, AgreesIn, declared_by, items_of, items_in}
+use Rattle.relation_semantics.proofs.Answering.{relates_still, may_itself}
+use Rattle.relation_semantics.proofs.Beginning.{begins_remembering, meant_agreed, agrees_now}
 use Rattle.relation_semantics.proofs.Building.{built_itself}
 use Rattle.relation_semantics.proofs.Full.{full_itself}
 use Rattle.relation_semantics.proofs.Going.{later_itself}
@@ -45,7 +45,6 @@ module _ (M : Manner) (k : Settings) where
       right = pair.right;
       bindings = first_order_before before after l pair.bindings;
     }) s (solved_before before after l s sol);
-    agrees = h.agrees;
   }
 
   module _ {Key Id Name : Type 0} where
@@ -104,8 +103,6 @@ module _ {Key Id Name : Type 0} (M : Manners) where
           right = pair.right;
           bindings = first_order_before r.store q.store later pair.bindings;
         }) s (solved_before r.store q.store later s sol);
-    agrees = λ k. subst₂ (λ j c. Agree j c (at v) a b) (sym (same_settings g.kept)) (sym (same_items g))
-        (h.agrees (same_manner M (λ z. z.relates_agreeing) g k));
   }
 
   module _ (r : State Key Id Name) (v : Variance) (a b : Tree) (h : Shown M r v a b) where
@@ -133,15 +130,17 @@ module _ {Key Id Name : Type 0} (M : Manners) where
 
   -- So a step of them answers the left one, and nothing is done.
   pub hit_is_step : {K : Type 0} (F : Tree → Type 0) (r : State Key Id Name) (tree : K → Tree) (t : K) (b : Tree) →
-      IsTrue (known (tree t)) → Shown M r r.ambient (tree t) b → Stepped M F r r (tree t) b tree (Ok (Done t))
+      IsTrue (known (tree t)) → Shown M r r.ambient (tree t) b →
+      ((st : Store) → BeganWith r st → AgreesIn r st (at r.ambient) (tree t) b) →
+      Stepped M F r r (tree t) b tree (Ok (Done t))
   unfolding passes_nowhere
-  hit_is_step F r tree t b sure h = record {
+  hit_is_step F r tree t b sure h agreed = record {
     passes = passes_nowhere _ r;
     verdict = record {
       outcome = hit_is_outcome r r.ambient (tree t) b h;
       answer = may_itself M r r.ambient (tree t);
       known = sure;
-      agrees = h.agrees;
+      agrees = λ k st began. (agreed st began, began);
     };
     exact = hit_is_exact r r.ambient (tree t) b h t;
     full = λ ha hb. full_itself r.store;
@@ -173,16 +172,20 @@ module _ {Key Id Name A E : Type 0} {r q s : State Key Id Name} {p : Pair Key} {
   module _ {K : Type 0} (M : Manners) (F : Tree → Type 0) (a b : Tree) (tree : K → Tree) (t : K)
       (step : Stepped M F r q a b tree (Ok (Done t))) where
     -- What a step answered it answers still.
-    pub step_remembering : Stepped M F r s a b tree (Ok (Done t))
+    pub step_remembering : MeansPair q p a b → Stepped M F r s a b tree (Ok (Done t))
     unfolding passes_remembering
-    step_remembering = record {
+    step_remembering pair = record {
       passes = passes_remembering step.passes;
       verdict = record {
         outcome = subst (λ st. Outcome (items_in r) r.kept.environment (at r.ambient) r.store st r.goals (step.passes).added
             a b) (sym h.store) (step.verdict).outcome;
         answer = record { related = relates_remembering h r.ambient a (tree t) ((step.verdict).answer).related };
         known = (step.verdict).known;
-        agrees = (step.verdict).agrees;
+        agrees = λ k st began. let z = (step.verdict).agrees k st began in (
+          z.0,
+          begins_remembering h st (meant_agreed q st p a b pair (subst (λ v. AgreesIn q st (at v) a b)
+              (sym (step.passes).ambient) (agrees_now step.passes st (at r.ambient) a b z.0))) z.1,
+        );
       };
       exact = λ k is pair. subst (λ st. IsFirstOrderStore st × Exact r.store st a b × KeepsUniverseOf r.store st a b)
           (sym h.store) (step.exact k is pair);

@@ -55,7 +55,7 @@ use Rattle.relation_semantics.specs.Headline.{IsFirstOrderPair}
 use Rattle.relation_semantics.specs.OneUniverse.{KeepsUniverseOf, LeadsInUniverse, BindsNoMore, BindsFewer}
 use Rattle.relation_semantics.specs.FirstOrder.{IsFirstOrderStore, Unifies, IsErasedSolution}
 use Rattle.relation_semantics.specs.Errors.{ErrorOf, ErrorAs, Meeting, as_pair, as_forms, IsDeferred}
-use Rattle.relation_semantics.specs.Agreeing.{Agree, AgreeBy}
+use Rattle.relation_semantics.specs.Agreeing.{AgreeIn}
 use Rattle.relation_semantics.specs.Asking.{Wanted, a_constraint, a_goal, AsksFor, HaveAlias}
 use Rattle.relation_semantics.specs.Recording.{AreBare, IsRecorded, AsksNoMore, LeadsAsking}
 use Rattle.relation_semantics.specs.Measures.{Goes, grown}
@@ -130,12 +130,11 @@ TakesParts M = (k : Settings) (c : Items) (h : Head) (i : ℕ) (v : Variance) (l
     (M k).takes (part_at c h i v) l
 
 -- What is known of two terms that were related at a variance: what is recorded and registered relates them; and where
--- promised, of first-order ones at invariance, each solution up to erasure unifies them; and they agree.
+-- promised, of first-order ones at invariance, each solution up to erasure unifies them.
 pub record IsShown (M : Manner) (k : Settings) (c : Items) (st : Store) (goals : List Goal) (e : Tree) (v : Variance)
     (a b : Tree) : Type 0 where
   pub relates : Relates c st goals e v a b
   pub unifies : M.is_exact → v ≡ Invariant → IsFirstOrderPair st a b → (s : Assign) → IsErasedSolution st s → Unifies s a b
-  pub agrees : M.relates_agreeing → Agree k c (at v) a b
 
 -- The variance at which two things are brought together.
 abbrev pub seen_at : Way → Variance
@@ -145,6 +144,28 @@ seen_at (second_opened ks ls v) = v
 seen_at (first_opened ks ls v) = v
 
 module _ {Key Id Name : Type 0} where
+  -- The two of a pair, which are known, agree by what a record has.
+  pub record HasAgreed (k : Settings) (m : Meaning Key Id Name) (st : Store) (p : Pair Key) : Type 0 where
+    pub left_known : IsTrue (known (m.ty p.1))
+    pub right_known : IsTrue (known (m.ty p.2))
+    pub agree : AgreeIn k (items_of m) st (at p.0) (m.ty p.1) (m.ty p.2)
+
+  -- Where these pairs are remembered, relating may have begun with a sound record: what is recorded now came of it, and
+  -- each of the pairs agrees by it.
+  pub record MayBegin (k : Settings) (m : Meaning Key Id Name) (now : Store) (ps : List (Pair Key)) (st : Store) :
+      Type 0 where
+    pub sound : IsSound st
+    pub later : IsLater st now
+    pub agree : (p : Pair Key) → Contains ps p → HasAgreed k m st p
+
+  -- The same of a relation as it stands.
+  abbrev pub BeganWith : State Key Id Name → Store → Type 0
+  BeganWith r st = MayBegin r.kept.settings r.meaning r.store r.remembered st
+
+  -- Two agree by a record, as a relation is set up.
+  abbrev pub AgreesIn : State Key Id Name → Store → Way → Tree → Tree → Type 0
+  AgreesIn r st way a b = AgreeIn r.kept.settings (items_in r) st way a b
+
   -- Only the variance at which a relation relates was changed.
   pub record Turned (v : Variance) (r q : State Key Id Name) : Type 0 where
     pub meaning : q.meaning ≡ r.meaning
@@ -222,13 +243,14 @@ module _ {Key Id Name : Type 0} where
   Refuses r q v = RefusesBy r q (at v)
 
   -- What an answer says of two things: they are related, no equal pair is lost, and a known term is answered; and where
-  -- that is promised, they agree.
+  -- that is promised, they agree by whatever record relating may have begun with, which it still may.
   pub record AnswersBy (M : Manners) (r q : State Key Id Name) (added : List Goal) (way : Way)
       (a b t : Tree) : Type 0 where
     pub outcome : Outcome (items_in r) r.kept.environment way r.store q.store r.goals added a b
     pub answer : MayAnswerBy M q way a t
     pub known : IsTrue (known t)
-    pub agrees : (M r.kept.settings).relates_agreeing → AgreeBy r.kept.settings (items_in r) way a b
+    pub agrees : (M r.kept.settings).relates_agreeing → (st : Store) → BeganWith r st →
+        AgreesIn r st way a b × BeganWith q st
 
   -- The same of two terms at a variance.
   abbrev pub Answers : Manners → State Key Id Name → State Key Id Name → List Goal → Variance → Tree → Tree → Tree →
@@ -342,14 +364,14 @@ module _ {Key Id Name : Type 0} where
   RelatedForms M r q v = RelatedAs as_forms M r q (at v)
 
   -- A step led from one pair to another, at a variance: what relates the second relates the first, no equal pair is
-  -- lost, an error of the second at its variance is one of the first at the ambient one, and if the second agrees, so
-  -- does the first.
+  -- lost, an error of the second at its variance is one of the first at the ambient one, and if the second agrees by a
+  -- record that relating may have begun with, as it still may, so does the first.
   pub record LeadsBy (r q : State Key Id Name) (added : List Goal) (way : Way) (a b : Tree) (way' : Way)
       (x y : Tree) : Type 0 where
     pub steps : StepsTo (items_in r) r.kept.environment r.store q.store r.goals added way a b way' x y
     pub errors : (m : Meaning Key Id Name) (k : Settings) (c : Items) (st : Store) (e : TypeError Key Id Name) →
         IsLater q.store st → IsSound st → ErrorOf m k c st (seen_at way') e x y → ErrorOf m k c st (seen_at way) e a b
-    pub agrees : (k : Settings) (c : Items) → AgreeBy k c way' x y → AgreeBy k c way a b
+    pub agrees : (st : Store) → BeganWith r st → (AgreesIn r st way' x y → AgreesIn r st way a b) × BeganWith q st
 
   -- The same of terms: of the first two at the ambient variance.
   abbrev pub Leads : State Key Id Name → State Key Id Name → List Goal → Tree → Tree → Variance → Tree → Tree → Type 0

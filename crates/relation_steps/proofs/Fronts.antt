@@ -10,7 +10,6 @@ use Rattle.relation_terms.specs.Heads.{Head, value_type}
 use Rattle.relation_terms.specs.Trees.{Tree, leaf, node, bind, nil, cons, IsList, count, nth, Leaves}
 use Rattle.relation_semantics.specs.Relation.{Items, at, parts, part_at, mode}
 use Rattle.relation_semantics.specs.Stores.{Store, InContext, weight, resolved}
-use Rattle.relation_semantics.specs.Agreeing.{Agree}
 use Rattle.relation_semantics.specs.Outcomes.{Outcome, Front, NeverOne, Exact, ExactFront, NoUnifier}
 use Rattle.relation_semantics.specs.Outcomes.{KeepsOne, KeepsUnified}
 use Rattle.relation_semantics.specs.Measures.{grown}
@@ -20,7 +19,7 @@ use Rattle.relation_semantics.specs.Alphabets.{IsBuiltOf, StaysBuilt, NeedsVaria
 use Rattle.relation_folds.specs.declared.error.RelateFault.{RelateFault}
 use Rattle.relation_folds.specs.declared.error.RelateFault.TheVariants.{Memory, Budget, Unrelated}
 use Rattle.relation_semantics.specs.OneUniverse.{NamesTypesTo, KeepsUniverseOf, LeadsInUniverse}
-use Rattle.relation_semantics.specs.Lawful.{State, Manners, Passes, Related, ExactResult, RecordsJust, items_in}
+use Rattle.relation_semantics.specs.Lawful.{State, Manners, Passes, Related, ExactResult, RecordsJust, BeganWith, AgreesIn, items_in}
 use Rattle.relation_semantics.specs.Asking.{AsksFor}
 use Rattle.relation_semantics.specs.Recording.{AreBare, FrontAsks, AsksNoMore, FrontAsksNoMore}
 use Rattle.relation_semantics.proofs.Recording.{bare_nth, stands_itself, records_trivial, front_asks_none}
@@ -34,7 +33,8 @@ use Rattle.relation_semantics.proofs.Keeping.{one_front, unified_front}
 use Rattle.relation_semantics.proofs.AskingSince.{front_none, front_next}
 use Rattle.relation_semantics.proofs.Passing.{passes_nowhere, passes_then, manner_then, outcome_seen, seen_no_more}
 use Rattle.relation_semantics.proofs.Parts.{nth_size}
-use Rattle.relation_semantics.proofs.Agreeing.{agree_parts}
+use Rattle.relation_semantics.proofs.AgreeingBefore.{parts_agreed}
+use Rattle.relation_semantics.proofs.Beginning.{agrees_then}
 use Rattle.relation_semantics.proofs.AgreeingForms.{next_agrees}
 use Rattle.relation_semantics.proofs.Answering.{same_items, same_settings, same_environment}
 
@@ -74,8 +74,8 @@ pub record Fronted {Key Id Name : Type 0} (M : Manners) (r q : State Key Id Name
       IsFirstOrderStore q.store × ExactFront i r.store q.store xs ys × KeepsUniverseOf r.store q.store xs ys
   pub full : StaysFullFor r.store q.store xs ys
   pub built : StaysBuilt r.store q.store passes.added xs ys
-  pub agrees : (M r.kept.settings).relates_agreeing → (j : ℕ) → j < i →
-      Agree r.kept.settings (items_in r) (at (part_at (items_in r) h j v)) (nth j xs) (nth j ys)
+  pub agrees : (M r.kept.settings).relates_agreeing → (st : Store) → BeganWith r st → ((j : ℕ) → j < i →
+      AgreesIn r st (at (part_at (items_in r) h j v)) (nth j xs) (nth j ys)) × BeganWith q st
   pub records : (M r.kept.settings).records_asked → AreBare r.kept.settings xs ys →
       RecordsJust (FrontAsks (items_in r) h v i xs ys) r q
   pub no_more : (M r.kept.settings).records_asked →
@@ -107,7 +107,7 @@ module _ {Key Id Name : Type 0} where
     );
     full = λ ha hb. full_itself r.store;
     built = built_itself r.store xs ys;
-    agrees = λ k j l. absurd (omega (arith, l));
+    agrees = λ k st began. (λ j l. absurd (omega (arith, l)), began);
     records = λ k bare. records_trivial (stands_itself r) refl (front_asks_none (items_in r) h v xs ys);
     no_more = λ k. front_none r.kept.settings (items_in r) r.store h v xs ys;
   }
@@ -190,10 +190,14 @@ module _ {Key Id Name : Type 0} where
           );
       full = fronted_full g.full;
       built = fronted_built (g.passes).added g.built;
-      agrees = λ k. next_agrees r.kept.settings (items_in r) h v i xs ys (f.agrees k)
-          (subst₂ (Agree r.kept.settings (items_in r) (at (part_at (items_in r) h i v))) ex ey
-          (subst₂ (λ j c. Agree j c (at (part_at (items_in r) h i v)) x y) (same_settings (f.passes).kept)
-          (same_items f.passes) ((g.verdict).agrees (manner_then M (λ m. m.relates_agreeing) f.passes k))));
+      agrees = λ k st began.
+          let z = f.agrees k st began in
+          let o = (g.verdict).agrees (manner_then M (λ m. m.relates_agreeing) f.passes k) st z.1 in (
+            next_agrees r.kept.settings (items_in r) st h v i xs ys z.0
+                (subst₂ (AgreesIn r st (at (part_at (items_in r) h i v))) ex ey
+                (agrees_then f.passes st (at (part_at (items_in r) h i v)) x y o.0)),
+            o.1,
+          );
       records = λ k bare. recorded_on (items_in r) h v i xs ys (same_environment (g.passes).kept) (f.records k bare)
           (subst₂ (λ t u. RecordsJust (λ z. AsksFor (items_in r) z (part_at (items_in r) h i v) t u) q p) ex ey
           (subst (λ c. RecordsJust (λ z. AsksFor c z (part_at (items_in r) h i v) x y) q p) (same_items f.passes)
@@ -250,12 +254,15 @@ module _ {Key Id Name : Type 0} where
 
   -- All parts were related, and agree.
   pub fronted_agree : {M : Manners} {r q : State Key Id Name} (h : Head) (v : Variance) (n : ℕ) (xs ys : Tree) →
-      n ≡ count xs → n ≡ count ys → Fronted M r q h v n xs ys → (M r.kept.settings).relates_agreeing →
-      Agree r.kept.settings (items_in r) (parts h 0 v) xs ys
-  fronted_agree {r = r} h v n xs ys e d f k =
-      agree_parts r.kept.settings (items_in r) h 0 v xs ys (sym e ∙ d) (λ j l. subst
-      (λ i. Agree r.kept.settings (items_in r) (at (part_at (items_in r) h i v)) (nth j xs) (nth j ys)) (omega arith)
-      (f.agrees k j (omega (arith, e, l))))
+      AreParts r.store xs ys → n ≡ count xs → n ≡ count ys → Fronted M r q h v n xs ys →
+      (M r.kept.settings).relates_agreeing → (st : Store) → BeganWith r st →
+      AgreesIn r st (parts h 0 v) xs ys × BeganWith q st
+  fronted_agree {r = r} h v n xs ys are e d f k st began =
+      let z = f.agrees k st began in (
+        parts_agreed r.kept.settings (items_in r) st h v xs ys are.left_list are.right_list (sym e ∙ d)
+            (λ j l. z.0 j (omega (arith, e, l))),
+        z.1,
+      )
 
   -- All parts were related exactly.
   pub fronted_exactly : {M : Manners} {r q : State Key Id Name} (h : Head) (v : Variance) (n : ℕ) (xs ys : Tree) →

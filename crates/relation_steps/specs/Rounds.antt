@@ -21,8 +21,7 @@ use Rattle.relation_semantics.specs.Alphabets.{StaysBuilt, BuiltFrom}
 use Rattle.relation_semantics.specs.Outcomes.{StepsTo, KeepsAll}
 use Rattle.relation_semantics.specs.Settings.{Settings}
 use Rattle.relation_semantics.specs.Errors.{ErrorOf}
-use Rattle.relation_semantics.specs.Agreeing.{Agree}
-use Rattle.relation_semantics.specs.Lawful.{State, Manners, Passes, Asked, OnlyMemory, items_in}
+use Rattle.relation_semantics.specs.Lawful.{State, Manners, Passes, Asked, OnlyMemory, BeganWith, AgreesIn, items_in}
 
 -- One round relates two binders at a variance that is not invariance; or where neither body uses what its binder binds.
 abbrev pub OneRound : Variance → Tree → Tree → Type 0
@@ -48,25 +47,27 @@ module _ {Key Id Name : Type 0} where
         RoundSteps r q added round a b x y
 
   -- A round led to two bodies. They are the relation's, weigh less, are built of what the binders are, and cost nothing
-  -- of the budget; an error of theirs is one of the binders, which agree if the bodies do.
+  -- of the budget; an error of theirs is one of the binders, which agree, by a record that relating may have begun with,
+  -- if the bodies do.
   pub record RoundLeads (M : Manners) (r q : State Key Id Name) (added : List Goal) (round : ℕ)
       (a b x y : Tree) : Type 0 where
     pub steps : RoundSteps r q added round a b x y
     pub asked : Asked M q r.ambient x y
     pub errors : (m : Meaning Key Id Name) (k : Settings) (c : Items) (st : Store) (e : TypeError Key Id Name) →
         IsLater q.store st → IsSound st → ErrorOf m k c st r.ambient e x y → ErrorOf m k c st r.ambient e a b
-    pub agrees : (k : Settings) (c : Items) → Agree k c (at r.ambient) x y → Agree k c (at r.ambient) a b
+    pub agrees : (st : Store) → BeganWith r st →
+        (AgreesIn r st (at r.ambient) x y → AgreesIn r st (at r.ambient) a b) × BeganWith q st
     pub built : BuiltFrom r.store a b x y
     pub same_budget : (q.store).budget ≡ (r.store).budget
     pub smaller : weight q.store x + weight q.store y < weight r.store a + weight r.store b
 
   -- What a round of two binders says: it leads to bodies; nothing is left after one that relates them, and nothing was
-  -- recorded or registered; or a growth was refused, and no solution is lost.
+  -- recorded, registered or remembered; or a growth was refused, and no solution is lost.
   abbrev pub RoundVerdict : {T : Type 0} → Manners → State Key Id Name → State Key Id Name → List Goal → ℕ → Tree →
       Tree → (T → Tree) → Result (Option (T × T)) (RelateFault Key Id Name) → Type 0
   RoundVerdict M r q added round a b tree (Ok (Some p)) = RoundLeads M r q added round a b (tree p.0) (tree p.1)
   RoundVerdict M r q added round a b tree (Ok None) =
-      (round ≡ 1) × OneRound r.ambient a b × (q.store ≡ r.store) × (added ≡ [])
+      (round ≡ 1) × OneRound r.ambient a b × (q.store ≡ r.store) × (added ≡ []) × (q.remembered ≡ r.remembered)
   RoundVerdict {T} M r q added round a b tree (Err f) = OnlyMemory {X = T} (Err f) × KeepsAll r.store q.store
 
   -- A round was begun. Nothing was bound but of what the binders and the bindings were built of.

@@ -52,7 +52,7 @@ module _ {S Key Id Name A : Type 0} (state : S → Context Key Id Name) (old new
       (result : Result (Vec (Goal Key (PredicateKey Key))) (RelateFault Key Id Name)) : Type 0 where
     -- What satisfies the record after and makes the goals true relates the two.
     pub sound : AnswersTerms state old new over tree e v a b result
-    -- Nothing in the two clashes.
+    -- Nothing in the two clashes, by what they came to before.
     pub agrees : RelatesAgreeing state old new over tree g v a b result
 
   -- No solution is lost.

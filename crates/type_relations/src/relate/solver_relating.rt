@@ -48,9 +48,10 @@ pub trait RelateExt: InferCtxtLike {
     /// record at `Invariant` just those solutions up to erasure stay that unify them, and no goal is asked: what is
     /// recorded is then a most general unifier.
     ///
-    /// What clashes is refused at each variance: after `Ok` the two are of one form throughout, down to pairs that are
-    /// left to goals, and variables and errors, which agree with each term of their sort; so do regions with regions,
-    /// and under binders what these bind.
+    /// What clashes is refused at each variance, also behind what was bound before: after `Ok` the two, by what they
+    /// came to before the call, are of one form throughout, down to pairs that are left to goals or left open, and to
+    /// variables and errors, which agree with each term of their sort, an integer or float variable only with what may
+    /// stand for it; so do regions with regions, and under binders what these bind.
     ///
     /// Of terms without variables that are first-order but for binders of regions, or that have aliases, left to goals,
     /// and no binder, `Ok` comes only of such that are related where all regions outlive each other and what is asked

@@ -7,7 +7,7 @@ use Rattle.relation_semantics.specs.Resolving.{IsShallowConst}
 use Rattle.relation_semantics.specs.Stores.{IsSound}
 use Rattle.relation_combining.specs.Combining.{resolved_first}
 use Rattle.relation_combining.proofs.Combining.{read_asked, read_there, one_const_step}
-use Rattle.relation_combining.proofs.Shallowly.{read_step}
+use Rattle.relation_combining.proofs.Shallowly.{read_step, shallow_const_free}
 use Rattle.relation_steps.proofs.Sorted.{one_const}
 use Rattle.relation_combining.proofs.combine.super_combine_consts.Goals as goal
 
@@ -124,7 +124,8 @@ returns-clause-stepped g c =
     c.shallow_resolve_const-right.ensures.shallow) in
     let q = g.R.HasState.state c.combine_shallow.new.relation in
     read_step r q (subst IsSound (sym o.store) sound) ((r.meaning).const_ a) ((r.meaning).const_ b) ((r.meaning).const_ l)
-    ((r.meaning).const_ t) left.reads.reads right.reads.reads IsFormedConst (q.meaning).const_ c.combine_shallow.result
+    ((r.meaning).const_ t) left.reads.reads right.reads.reads (shallow_const_free r.store ((r.meaning).const_ l) left.shallow)
+    (shallow_const_free r.store ((r.meaning).const_ t) right.shallow) IsFormedConst (q.meaning).const_ c.combine_shallow.result
     c.combine_shallow.ensures.stepped
 
 pub returns-clause-combines : goal.returns-clause-combines

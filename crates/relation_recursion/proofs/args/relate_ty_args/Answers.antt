@@ -6,7 +6,7 @@ use Rattle.relation_semantics.specs.Parts.{head_of}
 use Rattle.relation_steps.specs.Arguments.{args_head}
 use Rattle.relation_semantics.specs.Lawful.{Asked, Related, Shown, MayAnswer}
 use Rattle.relation_semantics.proofs.Building.{built_as}
-use Rattle.relation_semantics.proofs.Passing.{as_err, asked_later, refused_again, noted_related, noted_refused, made_or_not, shown_now}
+use Rattle.relation_semantics.proofs.Passing.{as_err, asked_later, refused_again, noted_related, noted_refused, made_or_not, related_agrees, shown_now}
 use Rattle.relation_recursion.proofs.Arguments.{args_heads, over_later}
 use Rattle.relation_semantics.proofs.Answering.{if_ok_both}
 use Rattle.relation_recursion.proofs.args.relate_ty_args.Goals as goal
@@ -146,7 +146,8 @@ returns g c =
       first.ty c.args.a_ty.now k.left_known,
       first.ty c.args.b_ty.now k.right_known,
       (done.passes).ambient,
-    )) in
+    )) (related_agrees M r.ambient a b (λ k. node (args_head (q.meaning) v) ((q.meaning).args k)) args done refl
+    (first.ty c.args.a_ty.now k.left_known) (first.ty c.args.b_ty.now k.right_known)) in
     let a_stays : (p.meaning).ty c.args.a_ty.now ≡ a = e.ty c.args.a_ty.now
     (subst (λ z. IsTrue (known z)) (sym (first.ty c.args.a_ty.now k.left_known)) k.left_known)
     ∙ first.ty c.args.a_ty.now k.left_known in

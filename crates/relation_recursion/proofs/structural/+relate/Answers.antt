@@ -43,7 +43,7 @@ use Rattle.relation_semantics.proofs.OneParts.{parts_counted, const_parts_counte
 use Rattle.relation_recursion.proofs.Compared.{parts_of_list, const_parts_list}
 use Rattle.part_variances.proofs.Handed.{AreOfTwoKinds, no_lifetime, no_ty, no_const_arg, HaveAsManyInputs}
 use Rattle.relation_semantics.proofs.Building.{built_again, built_as}
-use Rattle.relation_semantics.proofs.Passing.{asked_later, parts_related, again_related, again_refused, again_shown, noted_related, noted_refused}
+use Rattle.relation_semantics.proofs.Passing.{asked_later, parts_related, again_related, again_refused, again_shown, again_agreed, related_agrees, manner_then, noted_related, noted_refused}
 use Rattle.relation_semantics.proofs.Passing.{turned, unlooked, step_done, retold, refused_again, shown_now, as_err}
 use Rattle.relation_semantics.proofs.Registered.{directed_from}
 use Rattle.relation_semantics.specs.Goals.{IsDirected}
@@ -412,7 +412,10 @@ tys-returns-in_ok-tys_done-in-Parts-clause-related g t c =
       ((inner.passes).extends).ty c.in-Parts.a ((step.verdict).asked).left_known ∙ i.0,
       ((inner.passes).extends).ty c.in-Parts.b ((step.verdict).asked).right_known ∙ i.1,
       (inner.passes).ambient ∙ (step.passes).ambient,
-    ))
+    )) (λ promised st began. related_agrees M r.ambient x y (p.meaning).ty z.answer inner (sym (step.passes).ambient)
+    (((inner.passes).extends).ty c.in-Parts.a ((step.verdict).asked).left_known)
+    (((inner.passes).extends).ty c.in-Parts.b ((step.verdict).asked).right_known)
+    (manner_then M (λ z. z.relates_agreeing) step.passes promised) st (((step.verdict).leads).agrees st began).1)
 
 pub tys-tys_done-requires-in-Again-clause-asked : goal.tys-tys_done-requires-in-Again-clause-asked
 tys-tys_done-requires-in-Again-clause-asked g t c =
@@ -569,6 +572,9 @@ tys-returns-in_ok-tys_done-in-Again-clause-related g t c =
     (((inner.passes).extends).ty c.in-Again.b ((step.verdict).read_asked).right_known)) (u.meaning).ty
     ((((n.ensures).passes).extends).ty c.in-Again.answer (done.verdict).known)
     (λ promised bare. absurd (just.0 promised bare))
+    (again_agreed M a b k l x y o v step.passes step.verdict step.exact step.built (arg_tree p.meaning)
+    c.in_ok-relate_again-in-Again.field-0 inner (((inner.passes).extends).ty c.in-Again.a ((step.verdict).read_asked).left_known)
+    (((inner.passes).extends).ty c.in-Again.b ((step.verdict).read_asked).right_known))
 
 pub tys-returns-in-Done-clause-registers : goal.tys-returns-in-Done-clause-registers
 tys-returns-in-Done-clause-registers g t c =
@@ -1578,7 +1584,8 @@ structurally_relate_tys-returns-then-is_empty-clause-related g t c =
     let noted = noted_related M r.ambient a b (q.meaning).ty c.args.a.now done (Ok n.field-0) n.ensures.noted (built_as r.store same_a same_b)
     (u.meaning).ty
     ((((n.ensures.noted).passes).extends).ty c.args.a.now (subst (λ z. IsTrue (known z)) (sym same_a) k.left_known))
-    (λ promised bare. (same_a, same_b, ((inv.fronted).passes).ambient)) in
+    (λ promised bare. (same_a, same_b, ((inv.fronted).passes).ambient))
+    (related_agrees M r.ambient a b (q.meaning).ty c.args.a.now done refl same_a same_b) in
     noted
 
 pub structurally_relate_tys-make_ty-requires-clause-ty_known : goal.structurally_relate_tys-make_ty-requires-clause-ty_known
@@ -1608,7 +1615,8 @@ structurally_relate_tys-make_ty-requires-clause-ty_known g t c =
     let noted = noted_related M r.ambient a b (q.meaning).ty c.args.a.now done (Ok n.field-0) n.ensures.noted (built_as r.store same_a same_b)
     (u.meaning).ty
     ((((n.ensures.noted).passes).extends).ty c.args.a.now (subst (λ z. IsTrue (known z)) (sym same_a) k.left_known))
-    (λ promised bare. (same_a, same_b, ((inv.fronted).passes).ambient)) in
+    (λ promised bare. (same_a, same_b, ((inv.fronted).passes).ambient))
+    (related_agrees M r.ambient a b (q.meaning).ty c.args.a.now done refl same_a same_b) in
     let e = ((n.ensures.noted).passes).extends in
     let stays : (u.meaning).ty c.args.a.now ≡ a =
     e.ty c.args.a.now (subst (λ z. IsTrue (known z)) (sym same_a) k.left_known) ∙ same_a in
@@ -1645,7 +1653,8 @@ structurally_relate_tys-make_ty-requires-clause-parts_known g t c =
     let noted = noted_related M r.ambient a b (q.meaning).ty c.args.a.now done (Ok n.field-0) n.ensures.noted (built_as r.store same_a same_b)
     (u.meaning).ty
     ((((n.ensures.noted).passes).extends).ty c.args.a.now (subst (λ z. IsTrue (known z)) (sym same_a) k.left_known))
-    (λ promised bare. (same_a, same_b, ((inv.fronted).passes).ambient)) in
+    (λ promised bare. (same_a, same_b, ((inv.fronted).passes).ambient))
+    (related_agrees M r.ambient a b (q.meaning).ty c.args.a.now done refl same_a same_b) in
     let e = ((n.ensures.noted).passes).extends in
     let stays : (u.meaning).ty c.args.a.now ≡ a =
     e.ty c.args.a.now (subst (λ z. IsTrue (known z)) (sym same_a) k.left_known) ∙ same_a in
@@ -1683,7 +1692,8 @@ structurally_relate_tys-make_ty-requires-clause-fits g t c =
     let noted = noted_related M r.ambient a b (q.meaning).ty c.args.a.now done (Ok n.field-0) n.ensures.noted (built_as r.store same_a same_b)
     (u.meaning).ty
     ((((n.ensures.noted).passes).extends).ty c.args.a.now (subst (λ z. IsTrue (known z)) (sym same_a) k.left_known))
-    (λ promised bare. (same_a, same_b, ((inv.fronted).passes).ambient)) in
+    (λ promised bare. (same_a, same_b, ((inv.fronted).passes).ambient))
+    (related_agrees M r.ambient a b (q.meaning).ty c.args.a.now done refl same_a same_b) in
     let e = ((n.ensures.noted).passes).extends in
     let stays : (u.meaning).ty c.args.a.now ≡ a =
     e.ty c.args.a.now (subst (λ z. IsTrue (known z)) (sym same_a) k.left_known) ∙ same_a in
@@ -1721,7 +1731,8 @@ structurally_relate_tys-returns-clause-related g t c =
     let noted = noted_related M r.ambient a b (q.meaning).ty c.args.a.now done (Ok n.field-0) n.ensures.noted (built_as r.store same_a same_b)
     (u.meaning).ty
     ((((n.ensures.noted).passes).extends).ty c.args.a.now (subst (λ z. IsTrue (known z)) (sym same_a) k.left_known))
-    (λ promised bare. (same_a, same_b, ((inv.fronted).passes).ambient)) in
+    (λ promised bare. (same_a, same_b, ((inv.fronted).passes).ambient))
+    (related_agrees M r.ambient a b (q.meaning).ty c.args.a.now done refl same_a same_b) in
     let e = ((n.ensures.noted).passes).extends in
     let stays : (u.meaning).ty c.args.a.now ≡ a =
     e.ty c.args.a.now (subst (λ z. IsTrue (known z)) (sym same_a) k.left_known) ∙ same_a in

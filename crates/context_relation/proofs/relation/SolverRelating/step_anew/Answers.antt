@@ -8,7 +8,7 @@ use Rattle.relation_semantics.proofs.Remembering.{step_remembering, step_not_rem
 use Rattle.relation_combining.specs.Solving.{solving_through, solver_manner}
 use Rattle.relation_steps.specs.Keyed.{SteppedTys}
 use Rattle.context_relation.specs.Stepping.{CombinesShallowTys, combined, not_remembered}
-use Rattle.context_relation.proofs.Recalling.{answered_pair, combined_alike, unanswered, not_answered}
+use Rattle.context_relation.proofs.Recalling.{answered_pair, answered_means, combined_alike, unanswered, not_answered}
 use Rattle.context_relation.proofs.relation.SolverRelating.step_anew.Goals as goal
 
 pub returns-in_err-step-clause-steps : goal.returns-in_err-step-clause-steps
@@ -106,7 +106,8 @@ returns-in_ok-remember-in-Done-clause-stepped g c =
     let step = subst (λ z. SteppedTys solver_manner was then a b (Ok z)) c.in-Done.is e.stepped in
     let h = c.in_ok-remember-in-Done.ensures in
     subst (λ m. Stepped solver_manner IsFormed was last ta tb m.ty (Ok (Done c.in-Done.answer))) (sym h.meaning)
-    (step_remembering h solver_manner IsFormed ta tb (d.meaning).ty c.in-Done.answer step)
+    (step_remembering h solver_manner IsFormed ta tb (d.meaning).ty c.in-Done.answer step
+    (answered_means was then a b c.in-Done.answer c.requires.asked step))
 
 pub returns-in_ok-remember-in-Done-clause-steps : goal.returns-in_ok-remember-in-Done-clause-steps
 returns-in_ok-remember-in-Done-clause-steps g c =

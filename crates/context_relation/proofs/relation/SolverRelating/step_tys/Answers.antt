@@ -6,7 +6,7 @@ use Rattle.relation_semantics.specs.Resolving.{formed}
 use Rattle.relation_combining.specs.Solving.{solving_through, solver_manner}
 use Rattle.relation_recursion.proofs.StructuralConsts.{itself_related}
 use Rattle.relation_semantics.proofs.Standing.{term_within}
-use Rattle.relation_combining.proofs.Shallowly.{read_step}
+use Rattle.relation_combining.proofs.Shallowly.{read_step, shallow_ty_free}
 use Rattle.relation_combining.proofs.OverContext.{all_taken, read_by_lists}
 use Rattle.context_relation.proofs.Solving.{held_kept, answered_step}
 use Rattle.relation_steps.proofs.Sorted.{one_ty}
@@ -66,7 +66,10 @@ returns-clause-stepped g c =
     (g.met.Infcx.InferCtxtLike.sound r.infcx.now c.requires.lawful.0.0) ((s.meaning).ty c.args.a.now)
     ((s.meaning).ty c.args.b.now) ((s.meaning).ty c.shallow_resolve-left.result)
     ((s.meaning).ty c.shallow_resolve-right.result) c.shallow_resolve-left.ensures.reads.reads
-    c.shallow_resolve-right.ensures.reads.reads IsFormed (d.meaning).ty c.step_read-2.result c.step_read-2.ensures.stepped
+    c.shallow_resolve-right.ensures.reads.reads
+    (shallow_ty_free s.store ((s.meaning).ty c.shallow_resolve-left.result) c.shallow_resolve-left.ensures.shallow)
+    (shallow_ty_free s.store ((s.meaning).ty c.shallow_resolve-right.result) c.shallow_resolve-right.ensures.shallow)
+    IsFormed (d.meaning).ty c.step_read-2.result c.step_read-2.ensures.stepped
 
 pub returns-then-have_no_variable-clause-stepped : goal.returns-then-have_no_variable-clause-stepped
 returns-then-have_no_variable-clause-stepped g c = c.step_read.ensures.stepped

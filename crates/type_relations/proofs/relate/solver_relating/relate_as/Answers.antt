@@ -28,7 +28,7 @@ use Rattle.context_relation.proofs.Solving.{adds_just_asked, adds_no_more}
 use Rattle.relation_semantics.proofs.AskingSince.{no_more_same}
 use Rattle.relation_semantics.specs.Recording.{IsJustAsked}
 use Rattle.relation_semantics.proofs.Recording.{nothing_asked}
-use Rattle.relation_semantics.proofs.Agreeing.{agree_same}
+use Rattle.relation_semantics.proofs.AgreeingBefore.{same_agreed}
 use Rattle.type_relations.proofs.Refusing.{none_answered, unrelated, fault_known, pays}
 use Rattle.type_relations.proofs.relate.solver_relating.relate_as.Goals as goal
 use Rattle.context_relation.proofs.Closed.{needs_as, budget_verdict}
@@ -58,7 +58,7 @@ returns-then-eq-clause-both g c =
     k.lhs_known k.rhs_known (sym c.if-eq.ensures) in
     record {
       sound = (λ w s sat all. same (ap (apply s) one), λ w s sat. sat);
-      agrees = agree_same (solver_settings c.args.aliases s.setup) (items_of s.meaning) c.args.variance a b one;
+      agrees = same_agreed (solver_settings c.args.aliases s.setup) (items_of s.meaning) s.store c.args.variance a b one;
     }
 
 pub returns-then-eq-clause-loses_none : goal.returns-then-eq-clause-loses_none
@@ -343,7 +343,8 @@ returns-clause-both g c =
     let related = subst (λ z. Related solver_manner was then v a b tree z) c.in_ok-related.was c.relate_in-related.ensures.related in
     record {
       sound = answers_goals s.meaning d.meaning s.store d.store s.lawful d.lawful v e a b tree hs c.in_ok-related.field-0 related;
-      agrees = relates_agreeing s.meaning d.meaning s.store d.store s.lawful d.lawful v e a b tree hs c.in_ok-related.field-0 related;
+      agrees = relates_agreeing s.meaning d.meaning s.store d.store s.lawful d.lawful v e a b tree hs c.in_ok-related.field-0 refl
+          (g.met.Infcx.InferCtxtLike.sound c.args.infcx.now k.lawful) related;
     }
 
 pub returns-clause-loses_none : goal.returns-clause-loses_none
