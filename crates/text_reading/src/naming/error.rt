@@ -133,6 +133,14 @@ pub(super) fn error_at(node: &Node, why: Wrong) -> NameError
     }
 }
 
+// Whether a node gives as many arguments as are expected.
+pub(super) fn check_count(node: &Node, expected: usize, found: usize) -> Result<(), NameError> {
+    if expected != found {
+        return Err(error_at(node, Wrong::Count { expected, found }));
+    }
+    Ok(())
+}
+
 // What a leaf that is not known would have to be, where a term of that sort is wanted, if of one.
 pub(super) fn missing_at(leaf: Leaf, expected: Option<Sort>) -> Missing {
     match leaf {

@@ -39,12 +39,9 @@ impl<'a> Namer<'a> {
         term: usize,
         predicates: &mut Predicates,
     ) -> Result<(), NameError> {
-        let wanted = match self.program.items.get(item) {
-            Some(item) => sort_of(item.sort),
-            None => return Err(error_at(node, Wrong::NotRead)),
-        };
-        let args = self.list(node, args, Wanted::Declared(item))?;
-        let term = self.term(node, term, Some(wanted))?;
+        let wanted = sort_of(self.item_sort(item));
+        let args = self.list(args, Wanted::Declared(item))?;
+        let term = self.term(term, Some(wanted))?;
         let projects = Term::Projects(variables, item, args.parts, term.number);
         let below = args.levels.max(term.levels);
         self.add_predicate(node, projects, below, predicates)
@@ -53,19 +50,16 @@ impl<'a> Namer<'a> {
     // What is assigned to what a trait declares, over the trait's arguments.
     fn assigns(
         &mut self,
-        whole: &Node,
         variables: Parts,
         of: usize,
         given: &Given,
         predicates: &mut Predicates,
     ) -> Result<(), NameError> {
         for number in &given.assigned {
-            let node = self.node(whole, *number)?;
-            let [name, term] = self.parts(&node)? else {
-                return Err(error_at(&node, Wrong::NotRead));
-            };
-            let item = self.associated_of(&node, of, *name, 0)?;
-            self.projects(&node, variables, item, &given.args, *term, predicates)?;
+            let node = self.node(*number);
+            let item = self.associated_of(&node, of, self.part(&node, 0), 0)?;
+            let term = self.part(&node, 1);
+            self.projects(&node, variables, item, &given.args, term, predicates)?;
         }
         Ok(())
     }
@@ -78,71 +72,53 @@ impl<'a> Namer<'a> {
         of: usize,
         predicates: &mut Predicates,
     ) -> Result<(), NameError> {
-        let variables = self.variables(node, variables)?;
-        let given = self.given(node, of)?;
-        let item = self.trait_of(&given.node, given.name)?;
-        let sort = self.item_sort(&given.node, &given.node, item, given.args.len())?;
-        let args = self.list(&given.node, &given.args, Wanted::Declared(item))?;
-        let term = if sort == ItemSort::AutoTrait {
+        let variables = self.variables(variables)?;
+        let given = self.given(of)?;
+        let item = self.trait_over(&given)?;
+        let args = self.list(&given.args, Wanted::Declared(item))?;
+        let term = if self.item_sort(item) == ItemSort::AutoTrait {
             Term::IsAuto(variables, item)
         } else {
             Term::Implements(variables, item, args.parts)
         };
         self.add_predicate(node, term, args.levels, predicates)?;
-        self.assigns(&given.node, variables, item, &given, predicates)
-    }
-
-    // What a trait's type or constant is, whose arguments stand behind the trait's.
-    fn is_of(
-        &mut self,
-        node: &Node,
-        variables: usize,
-        of: usize,
-        own: usize,
-        term: usize,
-        predicates: &mut Predicates,
-    ) -> Result<(), NameError> {
-        let variables = self.variables(node, variables)?;
-        let own = self.own_of(node, of, own)?;
-        self.projects(node, variables, own.item, &own.args, term, predicates)
+        self.assigns(variables, item, &given, predicates)
     }
 
     // Adds what a bound says.
-    fn bound_says(
-        &mut self,
-        whole: &Node,
-        number: usize,
-        predicates: &mut Predicates,
-    ) -> Result<(), NameError> {
-        let node = self.node(whole, number)?;
-        match (node.kind, self.parts(&node)?) {
+    fn bound_says(&mut self, number: usize, predicates: &mut Predicates) -> Result<(), NameError> {
+        let node = self.node(number);
+        match (node.kind, self.parts(&node)) {
             (NodeKind::Form(Form::Implements), [variables, of]) => {
                 self.implements(&node, *variables, *of, predicates)
             }
             (NodeKind::Form(Form::Projects), [variables, of, own, term]) => {
-                self.is_of(&node, *variables, *of, *own, *term, predicates)
+                let variables = self.variables(*variables)?;
+                let own = self.own_of(*of, *own)?;
+                self.projects(&node, variables, own.item, &own.args, *term, predicates)
             }
             _ => Err(error_at(&node, Wrong::NotRead)),
         }
     }
 
     // A trait object.
-    pub fn object(&mut self, node: &Node, parts: &[usize]) -> Result<Made, NameError> {
-        let Some((region, bounds)) = parts.split_last() else {
-            return Err(error_at(node, Wrong::NotRead));
-        };
+    pub fn object(
+        &mut self,
+        node: &Node,
+        bounds: &[usize],
+        region: usize,
+    ) -> Result<Made, NameError> {
         let mut predicates = Predicates {
             numbers: Vec::new(self.alloc),
             levels: 0,
         };
         for bound in bounds {
-            self.bound_says(node, *bound, &mut predicates)?;
+            self.bound_says(*bound, &mut predicates)?;
         }
-        let region = self.term(node, *region, Some(Sort::Region))?;
+        let region = self.term(region, Some(Sort::Region))?;
         let first = self.program.parts.len();
         self.program.parts.extend_from_slice(&predicates.numbers)?;
-        let behind = self.program.parts.len();
-        let term = Term::Object(Parts { first, behind }, region.number);
+        let term = Term::Object(self.parts_from(first), region.number);
         self.add(node, term, Sort::Type, predicates.levels.max(region.levels))
     }
 }

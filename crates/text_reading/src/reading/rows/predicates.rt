@@ -1,9 +1,11 @@
 //! How predicates are written.
-use crate::reading::error::Expected;
+use crate::reading::shapes::Line::To;
 use crate::reading::shapes::Makes::Node;
-use crate::reading::shapes::Piece::{Leaf, List, Mark, NextName, NextPointer, Part};
-use crate::reading::shapes::{ITSELF, Line, Shape, Sort};
-use crate::reading::signs::Sign;
+use crate::reading::shapes::Piece::{List, Mark, NextName, NextPointer, Part};
+use crate::reading::shapes::{A_NAME, A_NUMBER, A_REGION, A_TERM, ITSELF, Shape, Sort};
+use crate::reading::signs::Sign::{
+    Bang, Colon, Const, Equal, LeftBracket, LeftParen, Limit, Pulls, RightBracket, RightParen,
+};
 use crate::reading::tree::{Claim, Form};
 use term_enums::{BoundConstness, PredicatePolarity};
 
@@ -19,37 +21,27 @@ pub(in crate::reading) static PREDICATE: [Shape; 7] = [
         Node(Form::Says),
         &[
             Part(Sort::PredicateBinder),
-            NextName(Sign::LeftParen),
-            Leaf(Expected::Name),
-            Mark(Sign::LeftParen),
-            List(Sort::Term, Line::To(Sign::RightParen)),
+            NextName(LeftParen),
+            A_NAME,
+            Mark(LeftParen),
+            List(Sort::Term, To(RightParen)),
         ],
     ),
     (
         Node(Form::ComesTo),
-        &[
-            Part(Sort::PredicateBinder),
-            Part(Sort::Term),
-            Mark(Sign::Equal),
-            Part(Sort::Term),
-        ],
+        &[Part(Sort::PredicateBinder), A_TERM, Mark(Equal), A_TERM],
     ),
     (
         Node(Form::OutlivesUnder),
-        &[
-            Part(Sort::PredicateBinder),
-            Part(Sort::Term),
-            Mark(Sign::Colon),
-            Leaf(Expected::Region),
-        ],
+        &[Part(Sort::PredicateBinder), A_TERM, Mark(Colon), A_REGION],
     ),
     (
         Node(Form::Claims(Claim::Trait(PredicatePolarity::Negative))),
         &[
             Part(Sort::PredicateBinder),
-            Part(Sort::Term),
-            Mark(Sign::Colon),
-            Mark(Sign::Bang),
+            A_TERM,
+            Mark(Colon),
+            Mark(Bang),
             Part(Sort::Named),
         ],
     ),
@@ -57,9 +49,9 @@ pub(in crate::reading) static PREDICATE: [Shape; 7] = [
         Node(Form::Claims(Claim::HostEffect(BoundConstness::Const))),
         &[
             Part(Sort::PredicateBinder),
-            Part(Sort::Term),
-            Mark(Sign::Colon),
-            Mark(Sign::Const),
+            A_TERM,
+            Mark(Colon),
+            Mark(Const),
             Part(Sort::Named),
         ],
     ),
@@ -67,11 +59,11 @@ pub(in crate::reading) static PREDICATE: [Shape; 7] = [
         Node(Form::Claims(Claim::HostEffect(BoundConstness::Maybe))),
         &[
             Part(Sort::PredicateBinder),
-            Part(Sort::Term),
-            Mark(Sign::Colon),
-            Mark(Sign::LeftBracket),
-            Mark(Sign::Const),
-            Mark(Sign::RightBracket),
+            A_TERM,
+            Mark(Colon),
+            Mark(LeftBracket),
+            Mark(Const),
+            Mark(RightBracket),
             Part(Sort::Named),
         ],
     ),
@@ -79,19 +71,13 @@ pub(in crate::reading) static PREDICATE: [Shape; 7] = [
         Node(Form::Claims(Claim::Trait(PredicatePolarity::Positive))),
         &[
             Part(Sort::PredicateBinder),
-            Part(Sort::Term),
-            Mark(Sign::Colon),
+            A_TERM,
+            Mark(Colon),
             Part(Sort::Named),
         ],
     ),
 ];
 
-pub(in crate::reading) static LIMIT: [Shape; 1] = [(
-    Node(Form::Limit),
-    &[Mark(Sign::Limit), Leaf(Expected::Number)],
-)];
+pub(in crate::reading) static LIMIT: [Shape; 1] = [(Node(Form::Limit), &[Mark(Limit), A_NUMBER])];
 
-pub(in crate::reading) static PULLS: [Shape; 1] = [(
-    Node(Form::Pulls),
-    &[Mark(Sign::Pulls), Leaf(Expected::Number)],
-)];
+pub(in crate::reading) static PULLS: [Shape; 1] = [(Node(Form::Pulls), &[Mark(Pulls), A_NUMBER])];
