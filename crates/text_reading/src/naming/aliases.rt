@@ -1,6 +1,6 @@
 //! What traits declare, and what is given to traits.
 
-use crate::naming::error::{Missing, NameError, Wrong, check_count, error_at};
+use crate::naming::error::{Missing, Named, Wrong, check_count, error_at};
 use crate::naming::namer::{Made, Meaning, Namer};
 use crate::naming::program::Sort;
 use crate::naming::terms::{List, Wanted};
@@ -37,7 +37,7 @@ pub(super) struct Own {
 
 impl<'a> Namer<'a> {
     // The number of the trait that a node names.
-    pub fn trait_of(&self, number: usize) -> Result<usize, NameError> {
+    pub fn trait_of(&self, number: usize) -> Named<usize> {
         let name = self.node(number);
         match self.meaning(&name, Missing::Trait)? {
             Meaning::Item(item) if is_trait(self.item_sort(item)) => Ok(item),
@@ -52,7 +52,7 @@ impl<'a> Namer<'a> {
         of: usize,
         number: usize,
         found: usize,
-    ) -> Result<usize, NameError> {
+    ) -> Named<usize> {
         let name = self.node(number);
         let item = self.associated.get(&(of, self.text_of(&name))).copied();
         let item = item.ok_or(error_at(&name, Wrong::Unknown(Missing::Associated)))?;
@@ -63,7 +63,7 @@ impl<'a> Namer<'a> {
     }
 
     // The name and the arguments that a node gives, and what it assigns.
-    pub fn given(&self, number: usize) -> Result<Given, NameError> {
+    pub fn given(&self, number: usize) -> Named<Given> {
         let node = self.node(number);
         let mut args = Vec::new(self.alloc);
         let mut assigned = Vec::new(self.alloc);
@@ -83,7 +83,7 @@ impl<'a> Namer<'a> {
     }
 
     // The same of a node that assigns nothing.
-    fn given_alone(&self, number: usize) -> Result<Given, NameError> {
+    fn given_alone(&self, number: usize) -> Named<Given> {
         let given = self.given(number)?;
         match given.assigned.first() {
             None => Ok(given),
@@ -92,14 +92,14 @@ impl<'a> Namer<'a> {
     }
 
     // The trait that is given its arguments.
-    pub fn trait_over(&self, given: &Given) -> Result<usize, NameError> {
+    pub fn trait_over(&self, given: &Given) -> Named<usize> {
         let of = self.trait_of(given.name)?;
         check_count(&given.node, self.declared_count(of), given.args.len())?;
         Ok(of)
     }
 
     // The trait that a node names which assigns nothing, and its arguments.
-    pub fn trait_alone(&self, number: usize) -> Result<Own, NameError> {
+    pub fn trait_alone(&self, number: usize) -> Named<Own> {
         let given = self.given_alone(number)?;
         let item = self.trait_over(&given)?;
         Ok(Own {
@@ -109,7 +109,7 @@ impl<'a> Namer<'a> {
     }
 
     // What the trait of one node declares that another names, over the arguments of both.
-    pub fn own_of(&self, of: usize, own: usize) -> Result<Own, NameError> {
+    pub fn own_of(&self, of: usize, own: usize) -> Named<Own> {
         let of = self.trait_alone(of)?;
         let own = self.given_alone(own)?;
         let item = self.associated_of(&own.node, of.item, own.name, own.args.len())?;
@@ -119,12 +119,7 @@ impl<'a> Namer<'a> {
     }
 
     // The arguments of an item, behind the type that implements its trait.
-    pub fn implemented(
-        &mut self,
-        ty: usize,
-        args: &[usize],
-        item: usize,
-    ) -> Result<List, NameError> {
+    pub fn implemented(&mut self, ty: usize, args: &[usize], item: usize) -> Named<List> {
         let mut all = Vec::new(self.alloc);
         all.push(ty)?;
         all.extend_from_slice(args)?;
@@ -132,13 +127,7 @@ impl<'a> Namer<'a> {
     }
 
     // What a trait declares, of a type that implements it.
-    pub fn associated(
-        &mut self,
-        node: &Node,
-        ty: usize,
-        of: usize,
-        own: usize,
-    ) -> Result<Made, NameError> {
+    pub fn associated(&mut self, node: &Node, ty: usize, of: usize, own: usize) -> Named<Made> {
         let own = self.own_of(of, own)?;
         let args = self.implemented(ty, &own.args, own.item)?;
         self.item_term(node, own.item, args)

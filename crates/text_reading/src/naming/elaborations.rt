@@ -1,6 +1,6 @@
 //! Questions about what predicates imply, of the tree's nodes.
 
-use crate::naming::error::NameError;
+use crate::naming::error::Named;
 use crate::naming::namer::Namer;
 use crate::naming::program::QuestionKind;
 use crate::reading::{Form, Node, NodeKind};
@@ -14,7 +14,7 @@ struct Counts {
 
 impl<'a> Namer<'a> {
     // The predicates of a question, and what it says behind them.
-    fn split<'b>(&self, parts: &'b [usize]) -> Result<(&'b [usize], Counts), NameError> {
+    fn split<'b>(&self, parts: &'b [usize]) -> Named<(&'b [usize], Counts)> {
         let mut counts = Counts {
             limit: None,
             pulls: None,
@@ -34,12 +34,7 @@ impl<'a> Namer<'a> {
     }
 
     // What follows from predicates.
-    pub fn note_elaborated(
-        &mut self,
-        only_self: bool,
-        sized: bool,
-        parts: &[usize],
-    ) -> Result<(), NameError> {
+    pub fn note_elaborated(&mut self, only_self: bool, sized: bool, parts: &[usize]) -> Named<()> {
         let (clauses, counts) = self.split(parts)?;
         let clauses = self.clauses(clauses)?;
         self.note(QuestionKind::Elaborate {
@@ -52,7 +47,7 @@ impl<'a> Namer<'a> {
     }
 
     // The supertraits of a trait that a predicate claims to be implemented.
-    pub fn note_supertraits(&mut self, node: &Node, parts: &[usize]) -> Result<(), NameError> {
+    pub fn note_supertraits(&mut self, node: &Node, parts: &[usize]) -> Named<()> {
         let (clauses, counts) = self.split(parts)?;
         let clauses = self.clauses(clauses)?;
         self.each_implements(node, clauses)?;

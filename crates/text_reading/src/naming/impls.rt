@@ -1,7 +1,7 @@
 //! Impls, and questions about impls and methods, of the tree's nodes.
 
 use crate::naming::aliases::sort_of;
-use crate::naming::error::{NameError, Wrong, error_at};
+use crate::naming::error::{Named, Wrong, error_at};
 use crate::naming::namer::Namer;
 use crate::naming::program::{Clause, Impl, Method, Parts, QuestionKind, Says};
 use crate::reading::{Claim, Node};
@@ -26,14 +26,14 @@ fn trait_of_header(header: &Clause) -> Option<usize> {
 
 impl<'a> Namer<'a> {
     // The header of an impl.
-    fn header(&mut self, header: &Node) -> Result<Clause, NameError> {
+    fn header(&mut self, header: &Node) -> Named<Clause> {
         let variables = self.variables(self.part(header, 0))?;
         let says = self.claims(IMPLEMENTED, self.part(header, 2), self.part(header, 1))?;
         Ok(Clause { variables, says })
     }
 
     // Whether the headers of two impls overlap.
-    pub fn note_overlap(&mut self, lhs: usize, rhs: usize) -> Result<(), NameError> {
+    pub fn note_overlap(&mut self, lhs: usize, rhs: usize) -> Named<()> {
         let (lhs, rhs) = (self.node(lhs), self.node(rhs));
         let of = self.node(self.part(&rhs, 1));
         let (lhs, rhs) = (self.header(&lhs)?, self.header(&rhs)?);
@@ -54,7 +54,7 @@ impl<'a> Namer<'a> {
         variables: Parts,
         gives: Clause,
         asks: &[usize],
-    ) -> Result<(), NameError> {
+    ) -> Named<()> {
         let first = self.program.clauses.len();
         self.program.clauses.push(gives)?;
         let asked = self.clauses(asks)?;
@@ -65,7 +65,7 @@ impl<'a> Namer<'a> {
     }
 
     // What an impl says that a type or a constant of its trait is.
-    fn assigned(&mut self, given: &Node, number: usize) -> Result<Clause, NameError> {
+    fn assigned(&mut self, given: &Node, number: usize) -> Named<Clause> {
         let node = self.node(number);
         let of = self.trait_alone(self.part(given, 1))?;
         let item = self.associated_of(&node, of.item, self.part(&node, 0), 0)?;
@@ -85,7 +85,7 @@ impl<'a> Namer<'a> {
         generics: usize,
         given: usize,
         asks: &[usize],
-    ) -> Result<(), NameError> {
+    ) -> Named<()> {
         let variables = self.variables(generics)?;
         let given = self.node(given);
         let header = self.header(&given)?;
@@ -99,7 +99,7 @@ impl<'a> Namer<'a> {
     }
 
     // The depth that is given, or else the one where nothing is said of it.
-    fn depth(&self, given: &[usize]) -> Result<usize, NameError> {
+    fn depth(&self, given: &[usize]) -> Named<usize> {
         let [number] = given else {
             return Ok(DEPTH);
         };
@@ -111,12 +111,7 @@ impl<'a> Namer<'a> {
     }
 
     // Whether a predicate follows from the impls so far and from what is assumed, within a depth if one is given.
-    pub fn note_prove(
-        &mut self,
-        node: &Node,
-        goal: usize,
-        depth: &[usize],
-    ) -> Result<(), NameError> {
+    pub fn note_prove(&mut self, node: &Node, goal: usize, depth: &[usize]) -> Named<()> {
         let depth = self.depth(depth)?;
         let clauses = self.clauses(&[goal])?;
         self.each_provable(node, clauses)?;
@@ -129,7 +124,7 @@ impl<'a> Namer<'a> {
     }
 
     // Which methods of a table may be for a type.
-    pub fn note_methods(&mut self, entries: &[usize], ty: usize) -> Result<(), NameError> {
+    pub fn note_methods(&mut self, entries: &[usize], ty: usize) -> Named<()> {
         let first = self.program.methods.len();
         for number in entries {
             let node = self.node(*number);

@@ -1,6 +1,6 @@
 //! Items and parameters that are declared.
 
-use crate::naming::error::{NameError, Wrong, error_at};
+use crate::naming::error::{Named, Wrong, error_at};
 use crate::naming::namer::{Meaning, Namer};
 use crate::naming::program::{Declared, Item, ParamSort, Sort};
 use crate::naming::terms::parameter;
@@ -9,7 +9,7 @@ use std::collections::HashSet;
 
 impl<'a> Namer<'a> {
     // A parameter that an item declares, or that an impl is generic over.
-    pub fn declared(&self, number: usize) -> Result<(Node, Declared<'a>), NameError> {
+    pub fn declared(&self, number: usize) -> Named<(Node, Declared<'a>)> {
         let node = self.node(number);
         let name = self.node(self.part(&node, 0));
         let (sort, variance) = match (node.kind, name.kind) {
@@ -37,7 +37,7 @@ impl<'a> Namer<'a> {
         sort: ItemSort,
         of: Option<usize>,
         nodes: &[usize],
-    ) -> Result<Vec<Declared<'a>>, NameError> {
+    ) -> Named<Vec<Declared<'a>>> {
         let mut declared = Vec::new(self.alloc);
         if let Some(of) = of {
             if let Some(item) = self.program.items.get(of) {
@@ -58,15 +58,36 @@ impl<'a> Namer<'a> {
         Ok(declared)
     }
 
-    // An item, which a trait declares or none.
-    fn add_item(
+    // From here on a trait declares that item under a name.
+    fn declare_associated(&mut self, name: &Node, of: usize, item: usize) -> Named<()> {
+        let key = (of, self.text_of(name));
+        if self.associated.contains_key(&key) {
+            return Err(error_at(name, Wrong::Again));
+        }
+        let _ = self.associated.insert(key, item)?;
+        Ok(())
+    }
+
+    // An item, which the trait of that name declares, if there is one.
+    pub fn declare_item(
         &mut self,
         sort: ItemSort,
         of: Option<usize>,
         name: usize,
-        declared: Vec<Declared<'a>>,
-    ) -> Result<(), NameError> {
-        let text = self.text_of(&self.node(name));
+        nodes: &[usize],
+    ) -> Named<()> {
+        let of = match of {
+            Some(of) => Some(self.trait_of(of)?),
+            None => None,
+        };
+        let declared = self.declared_all(sort, of, nodes)?;
+        let name = self.node(name);
+        let text = self.text_of(&name);
+        let number = self.program.items.len();
+        match of {
+            Some(of) => self.declare_associated(&name, of, number)?,
+            None => self.declare(&name, Meaning::Item(number))?,
+        }
         self.program.items.push(Item {
             sort,
             text,
@@ -76,41 +97,8 @@ impl<'a> Namer<'a> {
         Ok(())
     }
 
-    // An item that no trait declares.
-    pub fn declare_item(
-        &mut self,
-        sort: ItemSort,
-        name: usize,
-        nodes: &[usize],
-    ) -> Result<(), NameError> {
-        let declared = self.declared_all(sort, None, nodes)?;
-        let number = self.program.items.len();
-        self.declare(&self.node(name), Meaning::Item(number))?;
-        self.add_item(sort, None, name, declared)
-    }
-
-    // An item that a trait declares: the trait's parameters stand before its own.
-    pub fn declare_associated(
-        &mut self,
-        sort: ItemSort,
-        of: usize,
-        own: usize,
-        nodes: &[usize],
-    ) -> Result<(), NameError> {
-        let of = self.trait_of(of)?;
-        let declared = self.declared_all(sort, Some(of), nodes)?;
-        let name = self.node(own);
-        let key = (of, self.text_of(&name));
-        if self.associated.contains_key(&key) {
-            return Err(error_at(&name, Wrong::Again));
-        }
-        let number = self.program.items.len();
-        let _ = self.associated.insert(key, number)?;
-        self.add_item(sort, Some(of), own, declared)
-    }
-
     // The index of a parameter: the one that is given, or else the one behind the last one's.
-    fn index(&self, node: &Node, given: &[usize]) -> Result<u32, NameError> {
+    fn index(&self, node: &Node, given: &[usize]) -> Named<u32> {
         let index = match given {
             [number] => u32::try_from(self.count(*number)?).ok(),
             _ => self.next_index,
@@ -125,7 +113,7 @@ impl<'a> Namer<'a> {
         constant: bool,
         name: usize,
         given: &[usize],
-    ) -> Result<(), NameError> {
+    ) -> Named<()> {
         let leaf = self.node(name);
         let index = self.index(node, given)?;
         self.next_index = index.checked_add(1);

@@ -1,7 +1,7 @@
 //! What the names of a text mean so far, and the program that was made so far.
 
 use crate::naming::binders::{Bound, scopes_of};
-use crate::naming::error::{Missing, NameError, Wrong, error_at};
+use crate::naming::error::{Missing, Named, Wrong, error_at};
 use crate::naming::plain::PLAIN;
 use crate::naming::program::{Declared, Mode, Parts, Program, Setup, Sort, Term};
 use crate::reading::{Form, ItemSort, Node, NodeKind, Tree};
@@ -66,7 +66,7 @@ pub(super) struct Namer<'a> {
 
 impl<'a> Namer<'a> {
     // Nothing is made, and no name means anything.
-    pub fn new(alloc: Global, text: &'a str, tree: &'a Tree) -> Result<Namer<'a>, NameError> {
+    pub fn new(alloc: Global, text: &'a str, tree: &'a Tree) -> Named<Namer<'a>> {
         let scopes = scopes_of(alloc, tree)?;
         Ok(Namer {
             alloc,
@@ -91,7 +91,7 @@ impl<'a> Namer<'a> {
     }
 
     // From here on the names of plain types and of the longest region mean something.
-    pub fn declare_plain(&mut self) -> Result<(), NameError> {
+    pub fn declare_plain(&mut self) -> Named<()> {
         for (name, sort, term) in &PLAIN {
             let made = self.push(*term, *sort, 1)?;
             let _ = self.meanings.insert(*name, Meaning::Term(made))?;
@@ -150,7 +150,7 @@ impl<'a> Namer<'a> {
     }
 
     // From here on a name means that.
-    pub fn declare(&mut self, node: &Node, meaning: Meaning) -> Result<(), NameError> {
+    pub fn declare(&mut self, node: &Node, meaning: Meaning) -> Named<()> {
         let name = self.text_of(node);
         if self.meanings.contains_key(name) {
             return Err(error_at(node, Wrong::Again));
@@ -160,13 +160,13 @@ impl<'a> Namer<'a> {
     }
 
     // What a name means, which would have to be that.
-    pub fn meaning(&self, node: &Node, missing: Missing) -> Result<Meaning, NameError> {
+    pub fn meaning(&self, node: &Node, missing: Missing) -> Named<Meaning> {
         let found = self.meanings.get(self.text_of(node)).copied();
         found.ok_or(error_at(node, Wrong::Unknown(missing)))
     }
 
     // The number of a name.
-    pub fn name(&mut self, name: &'a str) -> Result<usize, NameError> {
+    pub fn name(&mut self, name: &'a str) -> Named<usize> {
         if let Some(number) = self.names.get(name) {
             return Ok(*number);
         }
@@ -177,7 +177,7 @@ impl<'a> Namer<'a> {
     }
 
     // The number of a node's name.
-    pub fn name_of(&mut self, number: usize) -> Result<usize, NameError> {
+    pub fn name_of(&mut self, number: usize) -> Named<usize> {
         let node = self.node(number);
         self.name(self.text_of(&node))
     }
@@ -194,13 +194,7 @@ impl<'a> Namer<'a> {
     }
 
     // Adds the term of a node, over parts that have so many levels.
-    pub fn add(
-        &mut self,
-        node: &Node,
-        term: Term,
-        sort: Sort,
-        below: usize,
-    ) -> Result<Made, NameError> {
+    pub fn add(&mut self, node: &Node, term: Term, sort: Sort, below: usize) -> Named<Made> {
         if below >= LEVELS {
             return Err(error_at(node, Wrong::TooDeep));
         }

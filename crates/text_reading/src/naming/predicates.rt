@@ -1,6 +1,6 @@
 //! Predicates, what traits state, and what is assumed.
 
-use crate::naming::error::{NameError, Wrong, check_count, error_at};
+use crate::naming::error::{Named, Wrong, check_count, error_at};
 use crate::naming::namer::{Made, Namer};
 use crate::naming::program::{Clause, ParamSort, Parts, Says, Sort, Stated, Term};
 use crate::naming::terms::{given_to, parameter};
@@ -39,7 +39,7 @@ impl<'a> Namer<'a> {
     }
 
     // A parameter of the trait whose statement this is, if the node's name is one's.
-    pub fn own_parameter(&mut self, node: &Node) -> Result<Option<Made>, NameError> {
+    pub fn own_parameter(&mut self, node: &Node) -> Named<Option<Made>> {
         let text = self.text_of(node);
         let Some((place, sort)) = self.own_place(text) else {
             return Ok(None);
@@ -51,12 +51,7 @@ impl<'a> Namer<'a> {
     }
 
     // What a trait states, the one of the `Stating` before these predicates.
-    pub fn state(
-        &mut self,
-        node: &Node,
-        kind: StatedKind,
-        numbers: &[usize],
-    ) -> Result<(), NameError> {
+    pub fn state(&mut self, node: &Node, kind: StatedKind, numbers: &[usize]) -> Named<()> {
         let of = self.stating.ok_or(error_at(node, Wrong::NotRead))?;
         let clauses = self.clauses(numbers)?;
         if kind == StatedKind::Const {
@@ -74,7 +69,7 @@ impl<'a> Namer<'a> {
     }
 
     // Predicates have to claim that a trait is implemented, each.
-    pub fn each_implements(&self, node: &Node, clauses: Parts) -> Result<(), NameError> {
+    pub fn each_implements(&self, node: &Node, clauses: Parts) -> Named<()> {
         if self.clauses_in(clauses).iter().all(implements) {
             return Ok(());
         }
@@ -83,7 +78,7 @@ impl<'a> Namer<'a> {
 
     // Predicates have to be such of which it can be told whether they follow: that a trait is implemented, or what a type
     // or a constant of a trait is.
-    pub fn each_provable(&self, node: &Node, clauses: Parts) -> Result<(), NameError> {
+    pub fn each_provable(&self, node: &Node, clauses: Parts) -> Named<()> {
         for clause in self.clauses_in(clauses) {
             if !implements(clause) && !matches!(clause.says, Says::ComesTo(..)) {
                 return Err(error_at(node, Wrong::NotProvable));
@@ -93,7 +88,7 @@ impl<'a> Namer<'a> {
     }
 
     // Predicates, as a range of the program's list.
-    pub fn clauses(&mut self, numbers: &[usize]) -> Result<Parts, NameError> {
+    pub fn clauses(&mut self, numbers: &[usize]) -> Named<Parts> {
         let first = self.program.clauses.len();
         for number in numbers {
             let clause = self.clause(*number)?;
@@ -103,7 +98,7 @@ impl<'a> Namer<'a> {
     }
 
     // A predicate.
-    fn clause(&mut self, number: usize) -> Result<Clause, NameError> {
+    fn clause(&mut self, number: usize) -> Named<Clause> {
         let node = self.node(number);
         let variables = self.variables(self.part(&node, 0))?;
         let rest = self.parts(&node).get(1..).unwrap_or(&[]);
@@ -120,14 +115,14 @@ impl<'a> Namer<'a> {
     }
 
     // What is claimed of a trait.
-    pub fn claims(&mut self, claim: Claim, ty: usize, of: usize) -> Result<Says, NameError> {
+    pub fn claims(&mut self, claim: Claim, ty: usize, of: usize) -> Named<Says> {
         let of = self.trait_alone(of)?;
         let args = self.implemented(ty, &of.args, of.item)?;
         Ok(Says::Claims(claim, of.item, args.parts))
     }
 
     // That a region or a type outlives a region.
-    fn outlives(&mut self, number: usize, region: usize) -> Result<Says, NameError> {
+    fn outlives(&mut self, number: usize, region: usize) -> Named<Says> {
         let made = self.term(number, None)?;
         let region = self.term(region, Some(Sort::Region))?.number;
         match made.sort {
@@ -142,7 +137,7 @@ impl<'a> Namer<'a> {
     }
 
     // What a trait's type or constant comes to, over its arguments.
-    fn comes_to(&mut self, alias: usize, term: usize) -> Result<Says, NameError> {
+    fn comes_to(&mut self, alias: usize, term: usize) -> Named<Says> {
         let made = self.term(alias, None)?;
         let (sort, item, args) = match self.program.terms.get(made.number) {
             Some(Term::Item(sort, item, args)) if is_declared(*sort) => (*sort, *item, *args),
@@ -153,13 +148,13 @@ impl<'a> Namer<'a> {
     }
 
     // The only term behind the name of a predicate.
-    fn only(&self, node: &Node, terms: &[usize]) -> Result<usize, NameError> {
+    fn only(&self, node: &Node, terms: &[usize]) -> Named<usize> {
         check_count(node, 1, terms.len())?;
         terms.first().copied().ok_or(error_at(node, Wrong::NotRead))
     }
 
     // A constant and its type, behind the name of a predicate.
-    fn typed(&mut self, node: &Node, terms: &[usize]) -> Result<Says, NameError> {
+    fn typed(&mut self, node: &Node, terms: &[usize]) -> Named<Says> {
         let [constant, ty] = terms else {
             let (expected, found) = (2, terms.len());
             return Err(error_at(node, Wrong::Count { expected, found }));
@@ -169,7 +164,7 @@ impl<'a> Namer<'a> {
     }
 
     // A predicate that is said by its name.
-    fn says(&mut self, node: &Node, name: usize, terms: &[usize]) -> Result<Says, NameError> {
+    fn says(&mut self, node: &Node, name: usize, terms: &[usize]) -> Named<Says> {
         let name = self.node(name);
         match self.text_of(&name) {
             "WellFormed" => {

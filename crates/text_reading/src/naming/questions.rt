@@ -1,6 +1,6 @@
 //! Questions of the tree's nodes.
 
-use crate::naming::error::{NameError, Wrong, error_at};
+use crate::naming::error::{Named, Wrong, error_at};
 use crate::naming::namer::Namer;
 use crate::naming::program::{Parts, Put, Question, QuestionKind, Sort};
 use crate::naming::terms::Wanted;
@@ -9,7 +9,7 @@ use crate::reading::{Form, Node};
 
 impl<'a> Namer<'a> {
     // Adds a question.
-    pub fn note(&mut self, kind: QuestionKind) -> Result<(), NameError> {
+    pub fn note(&mut self, kind: QuestionKind) -> Named<()> {
         let variables = self.program.variables.len();
         self.program.questions.push(Question {
             kind,
@@ -25,28 +25,28 @@ impl<'a> Namer<'a> {
     }
 
     // The number of a term of any sort.
-    pub fn any(&mut self, number: usize) -> Result<usize, NameError> {
+    pub fn any(&mut self, number: usize) -> Named<usize> {
         Ok(self.term(number, None)?.number)
     }
 
     // The number of a type.
-    pub fn ty(&mut self, number: usize) -> Result<usize, NameError> {
+    pub fn ty(&mut self, number: usize) -> Named<usize> {
         Ok(self.term(number, Some(Sort::Type))?.number)
     }
 
     // The number of a region.
-    fn region(&mut self, number: usize) -> Result<usize, NameError> {
+    fn region(&mut self, number: usize) -> Named<usize> {
         Ok(self.term(number, Some(Sort::Region))?.number)
     }
 
     // The terms of a node that lists some.
-    fn listed(&mut self, number: usize) -> Result<Parts, NameError> {
+    fn listed(&mut self, number: usize) -> Named<Parts> {
         let numbers = self.parts(&self.node(number));
         Ok(self.list(numbers, Wanted::Any)?.parts)
     }
 
     // The terms of two lists, each of the second of the sort of its partner in the first.
-    fn paired(&mut self, lhs: usize, rhs: usize) -> Result<(Parts, Parts), NameError> {
+    fn paired(&mut self, lhs: usize, rhs: usize) -> Named<(Parts, Parts)> {
         let left = self.parts(&self.node(lhs));
         let right = self.parts(&self.node(rhs));
         let lhs = self.listed(lhs)?;
@@ -63,11 +63,7 @@ impl<'a> Namer<'a> {
     }
 
     // Terms, of that sort if one is wanted, and the regions that they outlive, as two lists of parts.
-    fn outliving(
-        &mut self,
-        numbers: &[usize],
-        sort: Option<Sort>,
-    ) -> Result<(Parts, Parts), NameError> {
+    fn outliving(&mut self, numbers: &[usize], sort: Option<Sort>) -> Named<(Parts, Parts)> {
         let mut regions = Vec::new(self.alloc);
         let first = self.program.parts.len();
         for number in numbers {
@@ -82,7 +78,7 @@ impl<'a> Namer<'a> {
     }
 
     // Terms and those that are put for them, each of the sort of its own, as a range of the program's list.
-    fn puts(&mut self, numbers: &[usize]) -> Result<Parts, NameError> {
+    fn puts(&mut self, numbers: &[usize]) -> Named<Parts> {
         let first = self.program.puts.len();
         for number in numbers {
             let node = self.node(*number);
@@ -95,7 +91,7 @@ impl<'a> Namer<'a> {
     }
 
     // After how many pulls a walk skips, as a range of the program's list.
-    fn skips(&mut self, numbers: &[usize]) -> Result<Parts, NameError> {
+    fn skips(&mut self, numbers: &[usize]) -> Named<Parts> {
         let first = self.program.skips.len();
         for number in numbers {
             let pulls = self.count(*number)?;
@@ -105,11 +101,7 @@ impl<'a> Namer<'a> {
     }
 
     // What is asked of one term, or of variables.
-    fn asked_of_one(
-        &mut self,
-        form: Form,
-        parts: &[usize],
-    ) -> Result<Option<QuestionKind>, NameError> {
+    fn asked_of_one(&mut self, form: Form, parts: &[usize]) -> Named<Option<QuestionKind>> {
         let kind = match (form, parts) {
             (Form::Components, [ty]) => QuestionKind::Components(self.ty(*ty)?),
             (Form::Rigid, [ty]) => QuestionKind::Rigid(self.ty(*ty)?),
@@ -143,7 +135,7 @@ impl<'a> Namer<'a> {
     }
 
     // What is asked of terms, if that is a question.
-    fn asked(&mut self, form: Form, parts: &[usize]) -> Result<Option<QuestionKind>, NameError> {
+    fn asked(&mut self, form: Form, parts: &[usize]) -> Named<Option<QuestionKind>> {
         let kind = match (form, parts) {
             (Form::Question(relation), [lhs, rhs]) => {
                 let lhs = self.ty(*lhs)?;
@@ -189,7 +181,7 @@ impl<'a> Namer<'a> {
     }
 
     // The last question is asked in the context that the one before left.
-    fn note_then(&mut self, node: &Node) -> Result<(), NameError> {
+    fn note_then(&mut self, node: &Node) -> Named<()> {
         let any = self.program.questions.len() > 1;
         match self.program.questions.last_mut() {
             Some(question) if any => {
@@ -201,7 +193,7 @@ impl<'a> Namer<'a> {
     }
 
     // The last question is asked that many times.
-    fn note_again(&mut self, times: usize) -> Result<(), NameError> {
+    fn note_again(&mut self, times: usize) -> Named<()> {
         let repeat = self.count(times)?;
         if repeat == 0 {
             return Err(error_at(&self.node(times), Wrong::NoTime));
@@ -213,7 +205,7 @@ impl<'a> Namer<'a> {
     }
 
     // A question, or what stands in a statement or in a question and is made with it.
-    pub fn question(&mut self, node: &Node, form: Form, parts: &[usize]) -> Result<(), NameError> {
+    pub fn question(&mut self, node: &Node, form: Form, parts: &[usize]) -> Named<()> {
         if let Some(kind) = self.asked(form, parts)? {
             return self.note(kind);
         }

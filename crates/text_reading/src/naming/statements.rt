@@ -1,6 +1,6 @@
 //! Statements of the tree's nodes.
 
-use crate::naming::error::{NameError, Wrong, error_at};
+use crate::naming::error::{NameError, Named, Wrong, error_at};
 use crate::naming::namer::{Meaning, Namer};
 use crate::naming::program::{Mode, Program};
 use crate::reading::{Form, ItemSort, Leaf, Node, NodeKind, Setting, Tree};
@@ -14,7 +14,7 @@ pub const LAST_UNIVERSE: usize = 9_999;
 
 impl<'a> Namer<'a> {
     // The number of a leaf, which is no larger than what is counted by it may be.
-    pub fn count(&self, number: usize) -> Result<usize, NameError> {
+    pub fn count(&self, number: usize) -> Named<usize> {
         let node = self.node(number);
         let NodeKind::Leaf(Leaf::Number { value, behind }) = node.kind else {
             return Err(error_at(&node, Wrong::NotRead));
@@ -26,7 +26,7 @@ impl<'a> Namer<'a> {
     }
 
     // The number that is given, if one is.
-    pub fn count_if(&self, given: &[usize]) -> Result<Option<usize>, NameError> {
+    pub fn count_if(&self, given: &[usize]) -> Named<Option<usize>> {
         match given {
             [number] => Ok(Some(self.count(*number)?)),
             _ => Ok(None),
@@ -34,7 +34,7 @@ impl<'a> Namer<'a> {
     }
 
     // Whether that is the name of the next solver, or else of the old one.
-    fn is_next_solver(&self, name: &Node) -> Result<bool, NameError> {
+    fn is_next_solver(&self, name: &Node) -> Named<bool> {
         match self.text_of(name) {
             "old" => Ok(false),
             "next" => Ok(true),
@@ -43,7 +43,7 @@ impl<'a> Namer<'a> {
     }
 
     // The typing mode of that name.
-    fn mode(&self, name: &Node) -> Result<Mode, NameError> {
+    fn mode(&self, name: &Node) -> Named<Mode> {
         match self.text_of(name) {
             "coherence" => Ok(Mode::Coherence),
             "analysis" => Ok(Mode::Analysis),
@@ -55,7 +55,7 @@ impl<'a> Namer<'a> {
     }
 
     // How contexts are made from here on.
-    fn set(&mut self, setting: Setting, number: usize) -> Result<(), NameError> {
+    fn set(&mut self, setting: Setting, number: usize) -> Named<()> {
         let leaf = self.node(number);
         match setting {
             Setting::Budget => self.budget = Some(self.count(number)?),
@@ -66,19 +66,21 @@ impl<'a> Namer<'a> {
     }
 
     // A name for a term.
-    fn declare_term(&mut self, name: usize, term: usize) -> Result<(), NameError> {
+    fn declare_term(&mut self, name: usize, term: usize) -> Named<()> {
         let made = self.term(term, None)?;
         self.declare(&self.node(name), Meaning::Term(made))
     }
 
     // A statement, or a part of one.
-    fn statement(&mut self, node: &Node, form: Form, parts: &[usize]) -> Result<(), NameError> {
+    fn statement(&mut self, node: &Node, form: Form, parts: &[usize]) -> Named<()> {
         match (form, parts) {
             (
                 Form::Item(sort @ (ItemSort::AssocTy | ItemSort::AssocConst)),
                 [of, own, declared @ ..],
-            ) => self.declare_associated(sort, *of, *own, declared),
-            (Form::Item(sort), [name, declared @ ..]) => self.declare_item(sort, *name, declared),
+            ) => self.declare_item(sort, Some(*of), *own, declared),
+            (Form::Item(sort), [name, declared @ ..]) => {
+                self.declare_item(sort, None, *name, declared)
+            }
             (Form::Parameter, [name, given @ ..]) => {
                 self.declare_parameter(node, false, *name, given)
             }
@@ -110,7 +112,7 @@ impl<'a> Namer<'a> {
     }
 
     // What a node is made to, if that is a term.
-    fn go_on(&mut self, node: &Node) -> Result<(), NameError> {
+    fn go_on(&mut self, node: &Node) -> Named<()> {
         let mut made = None;
         if let NodeKind::Form(form) = node.kind {
             let parts = self.parts(node);
@@ -124,7 +126,7 @@ impl<'a> Namer<'a> {
     }
 
     // Makes all nodes to what they are.
-    fn go_over(&mut self) -> Result<(), NameError> {
+    fn go_over(&mut self) -> Named<()> {
         self.declare_plain()?;
         let tree = self.tree;
         for node in &tree.nodes {

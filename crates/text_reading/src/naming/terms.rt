@@ -1,7 +1,7 @@
 //! Terms of the tree's nodes.
 
 use crate::naming::aliases::{is_trait, sort_of};
-use crate::naming::error::{Missing, NameError, Wrong, check_count, error_at, missing_at};
+use crate::naming::error::{Missing, Named, Wrong, check_count, error_at, missing_at};
 use crate::naming::namer::{Made, Meaning, Namer};
 use crate::naming::plain::{USIZE, number_size};
 use crate::naming::program::{ParamSort, Parts, Sort, Term, VariableKind};
@@ -104,7 +104,7 @@ impl<'a> Namer<'a> {
     }
 
     // The terms of those nodes, as a list of parts.
-    pub fn list(&mut self, nodes: &[usize], wanted: Wanted) -> Result<List, NameError> {
+    pub fn list(&mut self, nodes: &[usize], wanted: Wanted) -> Named<List> {
         let first = self.program.parts.len();
         let mut levels = 0;
         for (place, number) in nodes.iter().enumerate() {
@@ -118,20 +118,14 @@ impl<'a> Namer<'a> {
     }
 
     // An item over its arguments.
-    pub fn item_term(&mut self, node: &Node, item: usize, args: List) -> Result<Made, NameError> {
+    pub fn item_term(&mut self, node: &Node, item: usize, args: List) -> Named<Made> {
         let sort = self.item_sort(item);
         let term = Term::Item(sort, item, args.parts);
         self.add(node, term, sort_of(sort), args.levels)
     }
 
     // The item that a node names is no trait, and the whole gives it that many arguments.
-    fn check_item(
-        &self,
-        whole: &Node,
-        node: &Node,
-        item: usize,
-        found: usize,
-    ) -> Result<(), NameError> {
+    fn check_item(&self, whole: &Node, node: &Node, item: usize, found: usize) -> Named<()> {
         check_count(whole, self.declared_count(item), found)?;
         if is_trait(self.item_sort(item)) {
             return Err(error_at(node, Wrong::IsTrait));
@@ -140,14 +134,14 @@ impl<'a> Namer<'a> {
     }
 
     // An item that has no parameters.
-    fn item_alone(&mut self, node: &Node, item: usize) -> Result<Made, NameError> {
+    fn item_alone(&mut self, node: &Node, item: usize) -> Named<Made> {
         self.check_item(node, node, item, 0)?;
         let parts = self.parts_from(self.program.parts.len());
         self.item_term(node, item, List { parts, levels: 0 })
     }
 
     // What a name means as a term.
-    fn named(&mut self, node: &Node, missing: Missing) -> Result<Made, NameError> {
+    fn named(&mut self, node: &Node, missing: Missing) -> Named<Made> {
         if let Some(own) = self.own_parameter(node)? {
             return Ok(own);
         }
@@ -158,7 +152,7 @@ impl<'a> Namer<'a> {
     }
 
     // A variable.
-    fn variable(&mut self, node: &Node) -> Result<Made, NameError> {
+    fn variable(&mut self, node: &Node) -> Named<Made> {
         let variable = variable_at(node)?;
         let number = variable.number;
         let (term, sort) = match variable.kind {
@@ -183,7 +177,7 @@ impl<'a> Namer<'a> {
     }
 
     // A number.
-    fn number(&mut self, node: &Node, value: u128, behind: usize) -> Result<Made, NameError> {
+    fn number(&mut self, node: &Node, value: u128, behind: usize) -> Named<Made> {
         let ty = self.number_type(self.text_from(node, behind));
         let (ty, size, greatest) = ty.ok_or(error_at(node, Wrong::NumberType))?;
         if value > greatest {
@@ -199,7 +193,7 @@ impl<'a> Namer<'a> {
         universe: usize,
         behind: usize,
         sort: Sort,
-    ) -> Result<Made, NameError> {
+    ) -> Named<Made> {
         let text = self.text_from(node, behind);
         let place = match text.strip_prefix('.') {
             None => 0,
@@ -215,7 +209,7 @@ impl<'a> Namer<'a> {
     }
 
     // What could not be told.
-    fn error(&mut self, node: &Node, sort: Sort) -> Result<Made, NameError> {
+    fn error(&mut self, node: &Node, sort: Sort) -> Named<Made> {
         let term = if sort == Sort::Const {
             Term::ConstError
         } else {
@@ -231,7 +225,7 @@ impl<'a> Namer<'a> {
         number: usize,
         leaf: Leaf,
         expected: Option<Sort>,
-    ) -> Result<Made, NameError> {
+    ) -> Named<Made> {
         match leaf {
             Leaf::Name | Leaf::Lifetime | Leaf::BoundTy | Leaf::BoundConst => {
                 match self.bound_leaf(node, number, leaf)? {
@@ -254,7 +248,7 @@ impl<'a> Namer<'a> {
     }
 
     // The term of a node, which is to be of that sort if one is wanted.
-    pub fn term(&mut self, number: usize, expected: Option<Sort>) -> Result<Made, NameError> {
+    pub fn term(&mut self, number: usize, expected: Option<Sort>) -> Named<Made> {
         let node = self.node(number);
         let made = match node.kind {
             NodeKind::Leaf(leaf) => self.leaf(&node, number, leaf, expected)?,
@@ -274,7 +268,7 @@ impl<'a> Namer<'a> {
     }
 
     // A name over arguments.
-    fn applied(&mut self, node: &Node, name: usize, args: &[usize]) -> Result<Made, NameError> {
+    fn applied(&mut self, node: &Node, name: usize, args: &[usize]) -> Named<Made> {
         let name = self.node(name);
         let Meaning::Item(item) = self.meaning(&name, Missing::Item)? else {
             return Err(error_at(&name, Wrong::NoItem));
@@ -292,7 +286,7 @@ impl<'a> Namer<'a> {
         sort: Sort,
         wanted: Wanted,
         parts: &[usize],
-    ) -> Result<Made, NameError> {
+    ) -> Named<Made> {
         let list = self.list(parts, wanted)?;
         let term = term_over(form, &self.program.parts, list.parts);
         let term = term.ok_or(error_at(node, Wrong::NotRead))?;
@@ -300,12 +294,7 @@ impl<'a> Namer<'a> {
     }
 
     // An expression.
-    fn expression(
-        &mut self,
-        node: &Node,
-        operation: usize,
-        args: &[usize],
-    ) -> Result<Made, NameError> {
+    fn expression(&mut self, node: &Node, operation: usize, args: &[usize]) -> Named<Made> {
         let operation = self.node(operation);
         let NodeKind::Leaf(Leaf::Number { value, .. }) = operation.kind else {
             return Err(error_at(&operation, Wrong::NotRead));
@@ -322,7 +311,7 @@ impl<'a> Namer<'a> {
         header: FnHeader,
         variables: usize,
         types: &[usize],
-    ) -> Result<Made, NameError> {
+    ) -> Named<Made> {
         let variables = self.variables(variables)?;
         let types = self.list(types, Wanted::Each(Sort::Type))?;
         let term = Term::FnPtr(header, variables, types.parts);
@@ -330,12 +319,7 @@ impl<'a> Namer<'a> {
     }
 
     // A type under a binder.
-    fn unsafe_binder(
-        &mut self,
-        node: &Node,
-        variables: usize,
-        body: usize,
-    ) -> Result<Made, NameError> {
+    fn unsafe_binder(&mut self, node: &Node, variables: usize, body: usize) -> Named<Made> {
         let variables = self.variables(variables)?;
         let body = self.term(body, Some(Sort::Type))?;
         let term = Term::UnsafeBinder(variables, body.number);
@@ -343,12 +327,7 @@ impl<'a> Namer<'a> {
     }
 
     // The term of a form, if that is one.
-    pub fn form(
-        &mut self,
-        node: &Node,
-        form: Form,
-        parts: &[usize],
-    ) -> Result<Option<Made>, NameError> {
+    pub fn form(&mut self, node: &Node, form: Form, parts: &[usize]) -> Named<Option<Made>> {
         if let Some((sort, wanted)) = made_of(form) {
             return Ok(Some(self.plain(node, form, sort, wanted, parts)?));
         }

@@ -1,6 +1,6 @@
 //! Variables of contexts, and the statements of which contexts have.
 
-use crate::naming::error::{NameError, Wrong, error_at};
+use crate::naming::error::{Named, Wrong, error_at};
 use crate::naming::namer::Namer;
 use crate::naming::program::{VariableId, VariableKind, Variables};
 use crate::naming::statements::{LAST_UNIVERSE, MOST_VARIABLES};
@@ -20,7 +20,7 @@ fn variable_of(leaf: Leaf) -> Option<VariableId> {
 }
 
 // The variable that a node names.
-pub(super) fn variable_at(node: &Node) -> Result<VariableId, NameError> {
+pub(super) fn variable_at(node: &Node) -> Named<VariableId> {
     let found = match node.kind {
         NodeKind::Leaf(leaf) => variable_of(leaf),
         NodeKind::Form(_) => None,
@@ -49,7 +49,7 @@ impl Variables {
 
 impl<'a> Namer<'a> {
     // The universe in which variables stand, the one that is given or else that of those before, and what names them.
-    fn universe<'b>(&self, parts: &'b [usize]) -> Result<(usize, &'b [usize]), NameError> {
+    fn universe<'b>(&self, parts: &'b [usize]) -> Named<(usize, &'b [usize])> {
         let before = self.program.variables.last();
         let least = before.map_or(0, |variables| variables.universe);
         let Some((last, rest)) = parts.split_last() else {
@@ -67,7 +67,7 @@ impl<'a> Namer<'a> {
     }
 
     // Variables that are in the contexts from here on.
-    pub fn declare_variables(&mut self, parts: &[usize]) -> Result<(), NameError> {
+    pub fn declare_variables(&mut self, parts: &[usize]) -> Named<()> {
         let (universe, numbers) = self.universe(parts)?;
         let mut variables = Variables {
             universe,
