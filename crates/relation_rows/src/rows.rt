@@ -13,23 +13,6 @@ pub struct Row {
     pub stored: &'static str,
 }
 
-// The rows, in tables: one that has all is too much for the proof of the function that names it.
-fn to_18() -> &'static [&'static str] {
-    &TO_18
-}
-
-fn to_36() -> &'static [&'static str] {
-    &TO_36
-}
-
-fn to_54() -> &'static [&'static str] {
-    &TO_54
-}
-
-fn to_71() -> &'static [&'static str] {
-    &TO_71
-}
-
 // The row that a text is: its name, its questions behind that, and the answers behind those.
 fn row_of(text: &'static str) -> Row {
     let (name, rest) = text.split_once(':').unwrap_or((text, ""));
@@ -47,10 +30,8 @@ fn row_of(text: &'static str) -> Row {
 /// `AllocError` where a growth was refused.
 pub fn all_rows(alloc: Global) -> Result<Vec<Row>, AllocError> {
     let mut rows = Vec::new(alloc);
-    for table in [to_18(), to_36(), to_54(), to_71()] {
-        for text in table {
-            rows.push(row_of(*text))?;
-        }
+    for text in &ROWS {
+        rows.push(row_of(*text))?;
     }
     Ok(rows)
 }
@@ -67,7 +48,8 @@ pub fn row_named(rows: &[Row], name: &str) -> Option<Row>
     None
 }
 
-static TO_18: [&str; 18] = [
+// The rows: the name, the questions, and behind `=>` the answers.
+static ROWS: [&str; 71] = [
     "r01: may unify[rigid, rigid] bool, char at 0; may unify[rigid, rigid] bool, char at 1; => true | false",
     "r02: may unify[rigid, rigid] bool, ?i0 at 0;
         may unify[rigid, rigid] ?i0, bool at 0; may unify[rigid, rigid] ?i0, bool at 1;
@@ -99,9 +81,6 @@ static TO_18: [&str; 18] = [
         => [U]: 'a | U: 'a | end | &'a U: 'b | U: 'b | 'a: 'b | end | for<'a> U: 'a | end",
     "r17: budget 1; (?0, ?1) == (u8, bool); => budget; bound=[?0=u8]; left=0",
     "r18: closure c<T, U>; param 'a, 'b; components c<&'b u8, (&'a u8,)>; => 'a",
-];
-
-static TO_36: [&str; 18] = [
     "r19: param const N = 0, const M = 0;
         args may unify[rigid, rigid] [N], [M]; args [N] == [M];
         => false | ok",
@@ -147,9 +126,6 @@ static TO_36: [&str; 18] = [
         K<&'a u8> <: K<&'b u8>; K<&'a u8> :> K<&'b u8>;
         => ok; regions=['b: 'a] | ok; regions=['a: 'b]",
     "r36: budget 1; (?0, ?i0) == (u8, u16); => ok; bound=[?0=u8, ?i0=u16]; left=0",
-];
-
-static TO_54: [&str; 18] = [
     "r37: [u8; ?c0] == [?0; 2]; => ok; bound=[?0=u8, ?c0=2]",
     "r38: trait Tr; type Tr::A; param T;
         <T as Tr>::A <: u8; <T as Tr>::A :> u8; ?i0 == <T as Tr>::A; ?i0 === <T as Tr>::A;
@@ -193,9 +169,6 @@ static TO_54: [&str; 18] = [
         components &'a (T, &'b T); components f<'a, &'b u8>; components w<'a>;
         components for<'a> fn(<T as Tr<'a>>::A);
         => 'a, T, 'b | 'b | none | escaping[T]",
-];
-
-static TO_71: [&str; 17] = [
     "r55: param T, 'a, 'b; assumptions (&'a T, u8): 'b; => 'a: 'b | (&'a T, u8): 'b | T: 'b",
     "r56: param T; trait MetaSized; trait Sized; sized Sized; super Sized: Self: MetaSized;
         elaborate T: Sized; elaborate[sized] T: Sized;
