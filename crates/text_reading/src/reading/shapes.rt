@@ -125,3 +125,5 @@ pub(super) const A_NAME: Piece = Piece::Leaf(Expected::Name);
 pub(super) const A_NUMBER: Piece = Piece::Leaf(Expected::Number);
 
 pub(super) const A_REGION: Piece = Piece::Leaf(Expected::Region);
+
+pub(super) const A_NAMED: Piece = Piece::Part(Sort::Named);

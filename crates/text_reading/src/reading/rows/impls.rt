@@ -3,7 +3,7 @@ use crate::reading::error::Expected;
 use crate::reading::shapes::Line::To;
 use crate::reading::shapes::Makes::Node;
 use crate::reading::shapes::Piece::{Leaf, List, Mark, Part};
-use crate::reading::shapes::{A_NAME, A_TERM, Shape, Sort};
+use crate::reading::shapes::{A_NAME, A_NAMED, A_TERM, Shape, Sort};
 use crate::reading::signs::Sign::{
     Assign, Const, FatArrow, For, Greater, Impl, LeftBrace, Less, RightBrace,
 };
@@ -13,13 +13,7 @@ use term_enums::Variance;
 // The header of an impl.
 pub(in crate::reading) static IMPL_HEADER: [Shape; 1] = [(
     Node(Form::ImplHeader),
-    &[
-        Mark(Impl),
-        Part(Sort::Generics),
-        Part(Sort::Named),
-        Mark(For),
-        A_TERM,
-    ],
+    &[Mark(Impl), Part(Sort::Generics), A_NAMED, Mark(For), A_TERM],
 )];
 
 // What an impl gives, as a predicate under no binder of its own.
@@ -27,7 +21,7 @@ pub(in crate::reading) static GIVEN: [Shape; 1] = [(
     Node(Form::Given),
     &[
         Part(Sort::NoBinder),
-        Part(Sort::Named),
+        A_NAMED,
         Mark(For),
         A_TERM,
         Part(Sort::Gives),

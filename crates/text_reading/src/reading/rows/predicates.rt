@@ -2,7 +2,9 @@
 use crate::reading::shapes::Line::To;
 use crate::reading::shapes::Makes::Node;
 use crate::reading::shapes::Piece::{List, Mark, NextName, NextPointer, Part};
-use crate::reading::shapes::{A_NAME, A_NUMBER, A_REGION, A_TERM, ITSELF, Shape, Sort};
+use crate::reading::shapes::{
+    A_NAME, A_NAMED, A_NUMBER, A_REGION, A_TERM, ITSELF, Piece, Shape, Sort,
+};
 use crate::reading::signs::Sign::{
     Bang, Colon, Const, Equal, LeftBracket, LeftParen, Limit, Pulls, RightBracket, RightParen,
 };
@@ -15,66 +17,49 @@ pub(in crate::reading) static PREDICATE_BINDER: [Shape; 2] = [
     (ITSELF, &[Part(Sort::Binder)]),
 ];
 
+// The binder that a predicate begins with.
+const UNDER: Piece = Part(Sort::PredicateBinder);
+
 // A predicate.
 pub(in crate::reading) static PREDICATE: [Shape; 7] = [
     (
         Node(Form::Says),
         &[
-            Part(Sort::PredicateBinder),
+            UNDER,
             NextName(LeftParen),
             A_NAME,
             Mark(LeftParen),
             List(Sort::Term, To(RightParen)),
         ],
     ),
-    (
-        Node(Form::ComesTo),
-        &[Part(Sort::PredicateBinder), A_TERM, Mark(Equal), A_TERM],
-    ),
+    (Node(Form::ComesTo), &[UNDER, A_TERM, Mark(Equal), A_TERM]),
     (
         Node(Form::OutlivesUnder),
-        &[Part(Sort::PredicateBinder), A_TERM, Mark(Colon), A_REGION],
+        &[UNDER, A_TERM, Mark(Colon), A_REGION],
     ),
     (
         Node(Form::Claims(Claim::Trait(PredicatePolarity::Negative))),
-        &[
-            Part(Sort::PredicateBinder),
-            A_TERM,
-            Mark(Colon),
-            Mark(Bang),
-            Part(Sort::Named),
-        ],
+        &[UNDER, A_TERM, Mark(Colon), Mark(Bang), A_NAMED],
     ),
     (
         Node(Form::Claims(Claim::HostEffect(BoundConstness::Const))),
-        &[
-            Part(Sort::PredicateBinder),
-            A_TERM,
-            Mark(Colon),
-            Mark(Const),
-            Part(Sort::Named),
-        ],
+        &[UNDER, A_TERM, Mark(Colon), Mark(Const), A_NAMED],
     ),
     (
         Node(Form::Claims(Claim::HostEffect(BoundConstness::Maybe))),
         &[
-            Part(Sort::PredicateBinder),
+            UNDER,
             A_TERM,
             Mark(Colon),
             Mark(LeftBracket),
             Mark(Const),
             Mark(RightBracket),
-            Part(Sort::Named),
+            A_NAMED,
         ],
     ),
     (
         Node(Form::Claims(Claim::Trait(PredicatePolarity::Positive))),
-        &[
-            Part(Sort::PredicateBinder),
-            A_TERM,
-            Mark(Colon),
-            Part(Sort::Named),
-        ],
+        &[UNDER, A_TERM, Mark(Colon), A_NAMED],
     ),
 ];
 

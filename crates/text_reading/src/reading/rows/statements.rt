@@ -3,7 +3,7 @@ use crate::reading::error::Expected;
 use crate::reading::shapes::Line::{By, To};
 use crate::reading::shapes::Makes::Node;
 use crate::reading::shapes::Piece::{Further, Leaf, List, Mark, NextTwo, OneOf, Part, Unless};
-use crate::reading::shapes::{A_NAME, A_NUMBER, A_TERM, ITSELF, Shape, Sort};
+use crate::reading::shapes::{A_NAME, A_NUMBER, A_TERM, ITSELF, Piece, Shape, Sort};
 use crate::reading::signs::Sign::{
     AbiC, AbiSystem, Assign, Assume, Auto, Budget, Closure, Colon, Comma, Const, Coroutine, Extern,
     Fn, Greater, Impl, Implied, In, Inherent, LeftParen, Less, Let, Minus, Mode, Opaque, Param,
@@ -12,6 +12,9 @@ use crate::reading::signs::Sign::{
 };
 use crate::reading::tree::{Form, ItemSort, Setting, StatedKind};
 use term_enums::Variance;
+
+// The parameters of an item, behind their `<`.
+const PARAMETERS: Piece = List(Sort::Declared, To(Greater));
 
 // What `inherent` is to be followed by.
 const TYPE_OR_CONST: Expected = Expected::Either(Type, Const);
@@ -58,44 +61,24 @@ pub(in crate::reading) static STATEMENT: [Shape; 32] = [
             Mark(PathSep),
             A_NAME,
             Further(Less),
-            List(Sort::Declared, To(Greater)),
+            PARAMETERS,
         ],
     ),
     (
         Node(Form::Item(ItemSort::FreeConst)),
-        &[
-            Mark(Const),
-            A_NAME,
-            Further(Less),
-            List(Sort::Declared, To(Greater)),
-        ],
+        &[Mark(Const), A_NAME, Further(Less), PARAMETERS],
     ),
     (
         Node(Form::Item(ItemSort::Struct)),
-        &[
-            Mark(Struct),
-            A_NAME,
-            Further(Less),
-            List(Sort::Declared, To(Greater)),
-        ],
+        &[Mark(Struct), A_NAME, Further(Less), PARAMETERS],
     ),
     (
         Node(Form::Item(ItemSort::Fn)),
-        &[
-            Mark(Fn),
-            A_NAME,
-            Further(Less),
-            List(Sort::Declared, To(Greater)),
-        ],
+        &[Mark(Fn), A_NAME, Further(Less), PARAMETERS],
     ),
     (
         Node(Form::Item(ItemSort::Closure)),
-        &[
-            Mark(Closure),
-            A_NAME,
-            Further(Less),
-            List(Sort::Declared, To(Greater)),
-        ],
+        &[Mark(Closure), A_NAME, Further(Less), PARAMETERS],
     ),
     (
         Node(Form::Item(ItemSort::CoroutineClosure)),
@@ -104,7 +87,7 @@ pub(in crate::reading) static STATEMENT: [Shape; 32] = [
             Mark(Closure),
             A_NAME,
             Further(Less),
-            List(Sort::Declared, To(Greater)),
+            PARAMETERS,
         ],
     ),
     (
@@ -114,46 +97,24 @@ pub(in crate::reading) static STATEMENT: [Shape; 32] = [
             Mark(Witness),
             A_NAME,
             Further(Less),
-            List(Sort::Declared, To(Greater)),
+            PARAMETERS,
         ],
     ),
     (
         Node(Form::Item(ItemSort::Coroutine)),
-        &[
-            Mark(Coroutine),
-            A_NAME,
-            Further(Less),
-            List(Sort::Declared, To(Greater)),
-        ],
+        &[Mark(Coroutine), A_NAME, Further(Less), PARAMETERS],
     ),
     (
         Node(Form::Item(ItemSort::Foreign)),
-        &[
-            Mark(Extern),
-            Mark(Type),
-            A_NAME,
-            Further(Less),
-            List(Sort::Declared, To(Greater)),
-        ],
+        &[Mark(Extern), Mark(Type), A_NAME, Further(Less), PARAMETERS],
     ),
     (
         Node(Form::Item(ItemSort::Trait)),
-        &[
-            Mark(Trait),
-            A_NAME,
-            Further(Less),
-            List(Sort::Declared, To(Greater)),
-        ],
+        &[Mark(Trait), A_NAME, Further(Less), PARAMETERS],
     ),
     (
         Node(Form::Item(ItemSort::AutoTrait)),
-        &[
-            Mark(Auto),
-            Mark(Trait),
-            A_NAME,
-            Further(Less),
-            List(Sort::Declared, To(Greater)),
-        ],
+        &[Mark(Auto), Mark(Trait), A_NAME, Further(Less), PARAMETERS],
     ),
     (
         Node(Form::Item(ItemSort::AssocTy)),
@@ -163,26 +124,16 @@ pub(in crate::reading) static STATEMENT: [Shape; 32] = [
             Mark(PathSep),
             A_NAME,
             Further(Less),
-            List(Sort::Declared, To(Greater)),
+            PARAMETERS,
         ],
     ),
     (
         Node(Form::Item(ItemSort::FreeTy)),
-        &[
-            Mark(Type),
-            A_NAME,
-            Further(Less),
-            List(Sort::Declared, To(Greater)),
-        ],
+        &[Mark(Type), A_NAME, Further(Less), PARAMETERS],
     ),
     (
         Node(Form::Item(ItemSort::Opaque)),
-        &[
-            Mark(Opaque),
-            A_NAME,
-            Further(Less),
-            List(Sort::Declared, To(Greater)),
-        ],
+        &[Mark(Opaque), A_NAME, Further(Less), PARAMETERS],
     ),
     (
         Node(Form::Item(ItemSort::InherentTy)),
@@ -191,7 +142,7 @@ pub(in crate::reading) static STATEMENT: [Shape; 32] = [
             OneOf(Type, TYPE_OR_CONST),
             A_NAME,
             Further(Less),
-            List(Sort::Declared, To(Greater)),
+            PARAMETERS,
         ],
     ),
     (
@@ -201,7 +152,7 @@ pub(in crate::reading) static STATEMENT: [Shape; 32] = [
             OneOf(Const, TYPE_OR_CONST),
             A_NAME,
             Further(Less),
-            List(Sort::Declared, To(Greater)),
+            PARAMETERS,
         ],
     ),
     (

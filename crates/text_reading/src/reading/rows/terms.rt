@@ -5,7 +5,9 @@ use crate::reading::shapes::Makes::{Lone, Node};
 use crate::reading::shapes::Piece::{
     Further, Header, Leaf, List, Mark, Next, NextName, NextTwo, OneOf, Part,
 };
-use crate::reading::shapes::{A_NAME, A_NUMBER, A_REGION, A_TERM, ITSELF, Line, Shape, Sort};
+use crate::reading::shapes::{
+    A_NAME, A_NAMED, A_NUMBER, A_REGION, A_TERM, ITSELF, Line, Piece, Shape, Sort,
+};
 use crate::reading::signs::Sign::{
     Ampersand, Arrow, As, Assign, Bang, Bar, Const, Dyn, Equal, Error, Expr, Extern, Fn, For,
     Greater, Is, LeftBrace, LeftBracket, LeftParen, Less, Mut, Null, PathSep, RightBrace,
@@ -13,6 +15,15 @@ use crate::reading::signs::Sign::{
 };
 use crate::reading::tree::Form;
 use term_enums::{ExternAbi, FnHeader, Mutability, Safety};
+
+// What function pointers and binders have.
+const INPUTS: Piece = List(Sort::Term, Line::Inputs);
+
+const AN_OUTPUT: Piece = Part(Sort::Output);
+
+const UNBOUND: Piece = Part(Sort::NoBinder);
+
+const BOUND_LIST: Piece = Part(Sort::Variables);
 
 // What `*` is to be followed by.
 const CONST_OR_MUT: Expected = Expected::Either(Const, Mut);
@@ -108,60 +119,31 @@ pub(in crate::reading) static PLAIN: [Shape; 22] = [
             Mark(Less),
             A_TERM,
             Mark(As),
-            Part(Sort::Named),
+            A_NAMED,
             Mark(Greater),
             Mark(PathSep),
-            Part(Sort::Named),
+            A_NAMED,
         ],
     ),
     (
         Node(Form::FnPtr(PLAIN_HEADER)),
-        &[
-            Mark(For),
-            Part(Sort::Variables),
-            Header,
-            List(Sort::Term, Line::Inputs),
-            Part(Sort::Output),
-        ],
+        &[Mark(For), BOUND_LIST, Header, INPUTS, AN_OUTPUT],
     ),
     (
         Node(Form::UnsafeBinder),
-        &[
-            NextTwo(Unsafe, Less),
-            Mark(Unsafe),
-            Part(Sort::Variables),
-            A_TERM,
-        ],
+        &[NextTwo(Unsafe, Less), Mark(Unsafe), BOUND_LIST, A_TERM],
     ),
     (
         Node(Form::FnPtr(PLAIN_HEADER)),
-        &[
-            Next(Unsafe),
-            Part(Sort::NoBinder),
-            Header,
-            List(Sort::Term, Line::Inputs),
-            Part(Sort::Output),
-        ],
+        &[Next(Unsafe), UNBOUND, Header, INPUTS, AN_OUTPUT],
     ),
     (
         Node(Form::FnPtr(PLAIN_HEADER)),
-        &[
-            Next(Fn),
-            Part(Sort::NoBinder),
-            Header,
-            List(Sort::Term, Line::Inputs),
-            Part(Sort::Output),
-        ],
+        &[Next(Fn), UNBOUND, Header, INPUTS, AN_OUTPUT],
     ),
     (
         Node(Form::FnPtr(PLAIN_HEADER)),
-        &[
-            Next(Extern),
-            Part(Sort::NoBinder),
-            Header,
-            List(Sort::Term, Line::Inputs),
-            Part(Sort::Output),
-        ],
+        &[Next(Extern), UNBOUND, Header, INPUTS, AN_OUTPUT],
     ),
     (ITSELF, &[Leaf(Expected::Term)]),
 ];
@@ -187,17 +169,14 @@ pub(in crate::reading) static BOUND: [Shape; 2] = [
         Node(Form::Projects),
         &[
             Part(Sort::Binder),
-            Part(Sort::Named),
+            A_NAMED,
             Mark(PathSep),
-            Part(Sort::Named),
+            A_NAMED,
             Mark(Equal),
             A_TERM,
         ],
     ),
-    (
-        Node(Form::Implements),
-        &[Part(Sort::Binder), Part(Sort::Named)],
-    ),
+    (Node(Form::Implements), &[Part(Sort::Binder), A_NAMED]),
 ];
 
 // A trait, or what one declares, and what is given to it.
@@ -244,7 +223,7 @@ pub(in crate::reading) static GROUPED: [Shape; 2] = [
 
 // A binder, or the one that is left out.
 pub(in crate::reading) static BINDER: [Shape; 2] = [
-    (ITSELF, &[Mark(For), Part(Sort::Variables)]),
+    (ITSELF, &[Mark(For), BOUND_LIST]),
     (Node(Form::Bound), &[]),
 ];
 
