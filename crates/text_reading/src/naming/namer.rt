@@ -11,7 +11,7 @@ use std::collections::HashMap;
 /// How many levels a term may have, names of `let` followed.
 const LEVELS: usize = 1024;
 
-// Stands for a node that reading never leaves out.
+// Stands for a number that is no node's. Reading leaves no such number.
 const NO_NODE: Node = Node {
     kind: NodeKind::Form(Form::File),
     start: 0,
@@ -121,13 +121,13 @@ impl<'a> Namer<'a> {
         tree.parts.get(node.first..node.behind).unwrap_or(&[])
     }
 
-    // The number of the part at a place of a node.
+    // The number of the part at a place of a node, or one that is no node's.
     pub fn part(&self, node: &Node, place: usize) -> usize {
         let numbers = self.parts(node);
         numbers.get(place).copied().unwrap_or(usize::MAX)
     }
 
-    // What an item is.
+    // What an item is. All numbers of items are those of some.
     pub fn item_sort(&self, item: usize) -> ItemSort {
         match self.program.items.get(item) {
             Some(item) => item.sort,
