@@ -1,6 +1,7 @@
 //! How deep what a question comes to may be, so that the stack holds it.
 
 use crate::opening::opened_levels;
+use crate::parts::{Sought, level_at, levels_to, push_parts, push_range};
 use std::alloc::{AllocError, Global};
 use text_reading::naming::{
     Parts, Program, Question, QuestionKind, Says, Term, VariableId, VariableKind,
@@ -12,120 +13,16 @@ use text_reading::naming::{
 // stack holds twice as many levels beside those of a text's term (docs/DECISIONS.md).
 pub(super) const MOST: usize = 1_024;
 
-// Whether variables may come to stand in a term that is this: it is one, or what a binder binds, which is read as one.
-fn is_variable(term: &Term) -> bool {
+// Whether terms are related by a question.
+fn relates(question: &Question) -> bool {
     matches!(
-        term,
-        Term::TyVar(_)
-            | Term::IntVar(_)
-            | Term::FloatVar(_)
-            | Term::ConstVar(_)
-            | Term::TyBound(..)
-            | Term::ConstBound(..)
+        question.kind,
+        QuestionKind::Relate { .. }
+            | QuestionKind::RelateArgs { .. }
+            | QuestionKind::Overlap { .. }
+            | QuestionKind::ImplsOverlap { .. }
+            | QuestionKind::Prove { .. }
     )
-}
-
-// Adds the numbers of a range.
-fn push_range(numbers: &[usize], range: Parts, found: &mut Vec<usize>) -> Result<(), AllocError> {
-    for number in numbers.get(range.first..range.behind).unwrap_or(&[]) {
-        found.push(*number)?;
-    }
-    Ok(())
-}
-
-// Numbers of terms: up to two, and those of a range.
-pub(super) type Numbers = (Option<usize>, Option<usize>, Parts);
-
-// Of no term.
-pub(super) const NO_PARTS: Parts = Parts {
-    first: 0,
-    behind: 0,
-};
-
-// The numbers of a term's parts, but for regions.
-fn parts_of(term: &Term) -> Numbers {
-    match term {
-        Term::Slice(part)
-        | Term::RawPtr(part, _)
-        | Term::Ref(_, part, _)
-        | Term::UnsafeBinder(_, part) => (Some(*part), None, NO_PARTS),
-        Term::Array(first, second) | Term::Pat(first, second) | Term::Range(first, second) => {
-            (Some(*first), Some(*second), NO_PARTS)
-        }
-        Term::Item(_, _, parts)
-        | Term::Tuple(parts)
-        | Term::Branch(_, parts)
-        | Term::Expr(_, parts)
-        | Term::Or(parts)
-        | Term::FnPtr(_, _, parts)
-        | Term::Object(parts, _)
-        | Term::Implements(_, _, parts) => (None, None, *parts),
-        Term::Projects(_, _, args, part) => (Some(*part), None, *args),
-        _ => (None, None, NO_PARTS),
-    }
-}
-
-// Adds numbers of terms.
-pub(super) fn push_numbers(
-    numbers: &[usize],
-    those: Numbers,
-    found: &mut Vec<usize>,
-) -> Result<(), AllocError> {
-    let (first, second, range) = those;
-    if let Some(first) = first {
-        found.push(first)?;
-    }
-    if let Some(second) = second {
-        found.push(second)?;
-    }
-    push_range(numbers, range, found)
-}
-
-// Adds the numbers of a term's parts, but for regions.
-pub(super) fn push_parts(
-    numbers: &[usize],
-    term: &Term,
-    found: &mut Vec<usize>,
-) -> Result<(), AllocError> {
-    push_numbers(numbers, parts_of(term), found)
-}
-
-// Whether a number is marked in a list.
-fn is_marked(marked: &[bool], number: usize) -> bool {
-    marked.get(number).copied().unwrap_or(false)
-}
-
-// Of each term of a program, whether variables may come to stand in it.
-fn open_terms(alloc: Global, program: &Program) -> Result<Vec<bool>, AllocError> {
-    let mut open = Vec::with_capacity(alloc, program.terms.len())?;
-    let mut parts = Vec::new(alloc);
-    for term in &program.terms {
-        parts.clear();
-        push_parts(&program.parts, term, &mut parts)?;
-        let mut is = is_variable(term);
-        for part in &parts {
-            is = is || is_marked(&open, *part);
-        }
-        open.push(is)?;
-    }
-    Ok(open)
-}
-
-// Whether terms are related by a question of a program.
-fn relates(program: &Program) -> bool {
-    for question in &program.questions {
-        if matches!(
-            &question.kind,
-            QuestionKind::Relate { .. }
-                | QuestionKind::RelateArgs { .. }
-                | QuestionKind::Overlap { .. }
-                | QuestionKind::ImplsOverlap { .. }
-                | QuestionKind::Prove { .. }
-        ) {
-            return true;
-        }
-    }
-    false
 }
 
 // Adds the numbers of the terms of a predicate: its arguments, and what a trait's type comes to.
@@ -134,9 +31,9 @@ fn push_said(program: &Program, number: usize, found: &mut Vec<usize>) -> Result
         return Ok(());
     };
     match clause.says {
-        Says::Claims(_, _, args) => push_range(&program.parts, args, found)?,
+        Says::Claims(_, _, args) => push_range(program, args, found)?,
         Says::ComesTo(_, _, args, term) => {
-            push_range(&program.parts, args, found)?;
+            push_range(program, args, found)?;
             found.push(term)?;
         }
         _ => {}
@@ -153,8 +50,8 @@ fn push_related(
     match kind {
         QuestionKind::Relate { lhs, rhs, .. } => found.extend_from_slice(&[*lhs, *rhs])?,
         QuestionKind::RelateArgs { lhs, rhs } => {
-            push_range(&program.parts, *lhs, found)?;
-            push_range(&program.parts, *rhs, found)?;
+            push_range(program, *lhs, found)?;
+            push_range(program, *rhs, found)?;
         }
         QuestionKind::Overlap { left, right } => {
             push_said(program, *left, found)?;
@@ -177,15 +74,13 @@ struct Search {
 
 impl Search {
     // Finds a term, if it was not found before.
-    fn find(&mut self, open: &[bool], number: usize) {
-        if !is_marked(open, number) {
-            return;
-        }
-        if let Some(mark) = self.marks.get_mut(number) {
-            if *mark != self.search {
+    fn find(&mut self, open: &[usize], number: usize) {
+        match self.marks.get_mut(number) {
+            Some(mark) if *mark != self.search && level_at(open, number) > 0 => {
                 *mark = self.search;
                 self.left = self.left.saturating_add(1);
             }
+            _ => {}
         }
     }
 
@@ -254,18 +149,11 @@ fn named_by(program: &Program, question: &Question, in_terms: Counts) -> Counts 
     }
 }
 
-// Numbers from the first on, those before `behind`.
-#[derive(Clone, Copy)]
-struct Range {
-    first: usize,
-    behind: usize,
-}
-
 // The variables of a kind that a context has.
 #[derive(Drop)]
 struct Variables {
-    // Those that were made while terms were related.
-    fresh: Vec<Range>,
+    // Ranges of those that were made while terms were related.
+    fresh: Vec<Parts>,
     // How many there were before the last question related terms.
     before: usize,
 }
@@ -298,10 +186,8 @@ impl Variables {
     // The question before has left so many.
     fn go_on(&mut self, made: usize) -> Result<(), AllocError> {
         if self.before < made {
-            self.fresh.push(Range {
-                first: self.before,
-                behind: made,
-            })?;
+            let (first, behind) = (self.before, made);
+            self.fresh.push(Parts { first, behind })?;
         }
         self.before = made;
         Ok(())
@@ -330,7 +216,8 @@ const NOTHING: Found = Found {
 #[derive(Drop)]
 pub struct Depths {
     alloc: Global,
-    open: Vec<bool>,
+    // Of each term how many levels lead to a variable.
+    open: Vec<usize>,
     search: Search,
     // How many terms a chain of bindings may lead through.
     chained: usize,
@@ -347,8 +234,8 @@ impl Depths {
     /// `AllocError` where a growth was refused.
     pub fn new(alloc: Global, program: &Program) -> Result<Depths, AllocError> {
         // Only where terms are related is it asked what is open.
-        let open = if relates(program) {
-            open_terms(alloc, program)?
+        let open = if program.questions.iter().any(relates) {
+            levels_to(alloc, program, Sought::Variables)?
         } else {
             Vec::new(alloc)
         };
@@ -402,7 +289,7 @@ impl Depths {
                 if let Some(term) = program.terms.get(number) {
                     found.fresh = found.fresh || self.is_fresh(term);
                     found.named = found.named.with_term(term);
-                    push_parts(&program.parts, term, &mut parts)?;
+                    push_parts(program, term, &mut parts)?;
                 }
                 if !parts.is_empty() {
                     found.open = found.open.saturating_add(1);

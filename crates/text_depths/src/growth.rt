@@ -1,37 +1,9 @@
 //! By how many levels what traits state is deeper, and how far an elaboration may go by it.
 
-use crate::depth::{MOST, NO_PARTS, Numbers, push_numbers, push_parts};
+use crate::depth::MOST;
+use crate::parts::{NO_PARTS, Numbers, Sought, clauses_in, level_at, levels_to, push_numbers};
 use std::alloc::{AllocError, Global};
-use text_reading::naming::{Parts, Program, Question, QuestionKind, Says, Stated, Term};
-
-// Whether a parameter is put in its place where what a trait states is used.
-fn is_parameter(term: &Term) -> bool {
-    matches!(term, Term::TyParam(..) | Term::ConstParam(..))
-}
-
-// The number at a place of a list, or 0.
-fn level_at(levels: &[usize], number: usize) -> usize {
-    levels.get(number).copied().unwrap_or(0)
-}
-
-// How deep parameters stand in each term of a program, itself counted: 0 where none does.
-fn parameter_levels(alloc: Global, program: &Program) -> Result<Vec<usize>, AllocError> {
-    let mut levels = Vec::with_capacity(alloc, program.terms.len())?;
-    let mut parts = Vec::new(alloc);
-    for term in &program.terms {
-        parts.clear();
-        push_parts(&program.parts, term, &mut parts)?;
-        let mut level = if is_parameter(term) { 1 } else { 0 };
-        for part in &parts {
-            let below = level_at(&levels, *part);
-            if below > 0 {
-                level = below.saturating_add(1).max(level);
-            }
-        }
-        levels.push(level)?;
-    }
-    Ok(levels)
-}
+use text_reading::naming::{Parts, Program, Question, QuestionKind, Says, Stated};
 
 // The numbers of the terms of a predicate, but for regions.
 fn terms_of(says: &Says) -> Numbers {
@@ -46,21 +18,17 @@ fn terms_of(says: &Says) -> Numbers {
     }
 }
 
-// By how many levels the terms of what is stated are deeper at most than those that it is stated of.
+// By how many levels the terms of what is stated are deeper at most than those that it is stated of, by how deep
+// parameters stand in terms.
 fn growth_of(
     alloc: Global,
     program: &Program,
     levels: &[usize],
     stated: &Stated,
 ) -> Result<usize, AllocError> {
-    let range = stated.clauses;
     let mut terms = Vec::new(alloc);
-    for clause in program
-        .clauses
-        .get(range.first..range.behind)
-        .unwrap_or(&[])
-    {
-        push_numbers(&program.parts, terms_of(&clause.says), &mut terms)?;
+    for clause in clauses_in(program, stated.clauses) {
+        push_numbers(program, terms_of(&clause.says), &mut terms)?;
     }
     let mut growth = 0;
     for number in &terms {
@@ -83,11 +51,7 @@ fn raise(growths: &mut Vec<usize>, number: usize, growth: usize) -> bool {
 // The most of what is known of the traits that predicates of a range claim.
 fn growth_from(program: &Program, growths: &[usize], range: Parts) -> usize {
     let mut growth = 0;
-    for clause in program
-        .clauses
-        .get(range.first..range.behind)
-        .unwrap_or(&[])
-    {
+    for clause in clauses_in(program, range) {
         if let Says::Claims(_, item, _) = clause.says {
             growth = level_at(growths, item).max(growth);
         }
@@ -107,59 +71,20 @@ fn spread(program: &Program, growths: &mut Vec<usize>) -> bool {
     any
 }
 
-// The predicates that an elaboration begins with, how many different ones there may be, and how often is pulled at
-// most: from how many it goes on.
-#[derive(Clone, Copy)]
-struct Elaboration {
-    given: Parts,
-    limit: usize,
-    pulls: usize,
-}
-
-// The elaboration that is asked for, with that limit where none is said.
-fn elaboration_of(kind: &QuestionKind, most: usize) -> Option<Elaboration> {
+// The predicates that an elaboration begins with, the limit that is said of it, and how often is pulled at most.
+fn elaboration_of(kind: &QuestionKind) -> Option<(Parts, Option<usize>, usize)> {
     match kind {
         QuestionKind::Elaborate {
             clauses,
             limit,
             pulls,
             ..
-        } => Some(Elaboration {
-            given: *clauses,
-            limit: limit.unwrap_or(most),
-            pulls: pulls.unwrap_or(usize::MAX),
-        }),
-        QuestionKind::Supertraits { clause, limit } => Some(Elaboration {
-            given: Parts {
-                first: *clause,
-                behind: clause.saturating_add(1),
-            },
-            limit: limit.unwrap_or(most),
-            pulls: usize::MAX,
-        }),
+        } => Some((*clauses, *limit, pulls.unwrap_or(usize::MAX))),
+        QuestionKind::Supertraits { clause, limit } => {
+            let (first, behind) = (*clause, clause.saturating_add(1));
+            Some((Parts { first, behind }, *limit, usize::MAX))
+        }
         _ => None,
-    }
-}
-
-// The same question, with that limit.
-fn with_limit(kind: QuestionKind, most: usize) -> QuestionKind {
-    let limit = Some(most);
-    match kind {
-        QuestionKind::Elaborate {
-            clauses,
-            only_self,
-            sized,
-            pulls,
-            ..
-        } => QuestionKind::Elaborate {
-            clauses,
-            only_self,
-            sized,
-            limit,
-            pulls,
-        },
-        QuestionKind::Supertraits { clause, .. } => QuestionKind::Supertraits { clause, limit },
-        _ => kind,
     }
 }
 
@@ -192,7 +117,7 @@ impl Growths {
         for _ in &program.items {
             growths.push(0)?;
         }
-        let levels = parameter_levels(alloc, program)?;
+        let levels = levels_to(alloc, program, Sought::Parameters)?;
         for stated in &program.stated {
             let growth = growth_of(alloc, program, &levels, stated)?;
             let _ = raise(&mut growths, stated.of, growth);
@@ -209,26 +134,29 @@ impl Growths {
     // How many different predicates an elaboration may meet, where it may meet others behind these that are too deep.
     // Each that is not given is deeper by the growth at most than one before it.
     fn most(&self, program: &Program, kind: &QuestionKind) -> Option<usize> {
-        let asked = elaboration_of(kind, self.most)?;
-        let growth = growth_from(program, &self.growths, asked.given);
-        if growth == 0 || asked.limit.min(asked.pulls).saturating_mul(growth) <= MOST {
+        let (given, limit, pulls) = elaboration_of(kind)?;
+        let limit = limit.unwrap_or(self.most);
+        let growth = growth_from(program, &self.growths, given);
+        if growth == 0 || limit.min(pulls).saturating_mul(growth) <= MOST {
             return None;
         }
-        let given = asked.given.behind.saturating_sub(asked.given.first);
+        let given = given.behind.saturating_sub(given.first);
         let most = given.saturating_add(MOST / growth);
-        if most < asked.limit { Some(most) } else { None }
+        if most < limit { Some(most) } else { None }
     }
 
     /// A question as it is asked, so that what follows from predicates is not too deep.
     pub fn bounded(&self, program: &Program, question: &Question) -> Bounded {
-        let mut bounded = Bounded {
-            question: *question,
-            lowered: false,
-        };
-        if let Some(most) = self.most(program, &question.kind) {
-            bounded.question.kind = with_limit(question.kind, most);
-            bounded.lowered = true;
+        let mut question = *question;
+        let most = self.most(program, &question.kind);
+        if let QuestionKind::Elaborate { limit, .. }
+        | QuestionKind::Supertraits { limit, .. } = &mut question.kind
+        {
+            *limit = most.or(*limit);
         }
-        bounded
+        Bounded {
+            question,
+            lowered: most.is_some(),
+        }
     }
 }

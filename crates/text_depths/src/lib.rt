@@ -5,6 +5,7 @@
 mod depth;
 mod growth;
 mod opening;
+mod parts;
 
 pub use depth::{Counts, Depths};
 pub use growth::{Bounded, Growths};

@@ -5,6 +5,7 @@ mod binders;
 mod elaborations;
 mod error;
 mod impls;
+mod items;
 mod namer;
 mod objects;
 mod plain;
@@ -13,6 +14,7 @@ mod program;
 mod questions;
 mod statements;
 mod terms;
+mod variables;
 
 pub use error::{Missing, NameError, Wrong, write_name_error};
 pub use program::{

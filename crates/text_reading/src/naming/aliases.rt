@@ -1,9 +1,9 @@
-//! What traits declare, and what items over arguments are.
+//! What traits declare, and what is given to traits.
 
-use crate::naming::error::{Missing, NameError, Wrong, error_at};
+use crate::naming::error::{Missing, Named, Wrong, check_count, error_at};
 use crate::naming::namer::{Made, Meaning, Namer};
-use crate::naming::program::{Parts, Sort, Term};
-use crate::naming::terms::Wanted;
+use crate::naming::program::Sort;
+use crate::naming::terms::{List, Wanted};
 use crate::reading::{Form, ItemSort, Node, NodeKind};
 
 // Whether an item is a trait.
@@ -37,56 +37,38 @@ pub(super) struct Own {
 
 impl<'a> Namer<'a> {
     // The number of the trait that a node names.
-    pub fn trait_of(&self, whole: &Node, number: usize) -> Result<usize, NameError> {
-        let name = self.node(whole, number)?;
-        let Meaning::Item(item) = self.meaning(&name, Missing::Trait)? else {
-            return Err(error_at(&name, Wrong::NoTrait));
-        };
-        match self.program.items.get(item) {
-            Some(found) if is_trait(found.sort) => Ok(item),
+    pub fn trait_of(&self, number: usize) -> Named<usize> {
+        let name = self.node(number);
+        match self.meaning(&name, Missing::Trait)? {
+            Meaning::Item(item) if is_trait(self.item_sort(item)) => Ok(item),
             _ => Err(error_at(&name, Wrong::NoTrait)),
         }
     }
 
-    // The item that a trait declares under the name of a node, which is given so many arguments of its own.
+    // The item that a trait declares under the name of a node, which the whole gives so many arguments of its own.
     pub fn associated_of(
         &self,
         whole: &Node,
         of: usize,
         number: usize,
         found: usize,
-    ) -> Result<usize, NameError> {
-        let name = self.node(whole, number)?;
-        let Some(item) = self.associated.get(&(of, self.text_of(&name)?)) else {
-            return Err(error_at(&name, Wrong::Unknown(Missing::Associated)));
-        };
-        let before = self.declared_count(whole, of)?;
-        let expected = self.declared_count(whole, *item)?.saturating_sub(before);
-        if expected != found {
-            return Err(error_at(whole, Wrong::Count { expected, found }));
-        }
-        Ok(*item)
-    }
-
-    // How many parameters an item has, without the type that implements a trait.
-    fn declared_count(&self, node: &Node, number: usize) -> Result<usize, NameError> {
-        match self.program.items.get(number) {
-            Some(item) => Ok(item.declared.len()),
-            None => Err(error_at(node, Wrong::NotRead)),
-        }
+    ) -> Named<usize> {
+        let name = self.node(number);
+        let item = self.associated.get(&(of, self.text_of(&name))).copied();
+        let item = item.ok_or(error_at(&name, Wrong::Unknown(Missing::Associated)))?;
+        let before = self.declared_count(of);
+        let expected = self.declared_count(item).saturating_sub(before);
+        check_count(whole, expected, found)?;
+        Ok(item)
     }
 
     // The name and the arguments that a node gives, and what it assigns.
-    pub fn given(&self, whole: &Node, number: usize) -> Result<Given, NameError> {
-        let node = self.node(whole, number)?;
-        let Some((name, rest)) = self.parts(&node)?.split_first() else {
-            return Err(error_at(&node, Wrong::NotRead));
-        };
+    pub fn given(&self, number: usize) -> Named<Given> {
+        let node = self.node(number);
         let mut args = Vec::new(self.alloc);
         let mut assigned = Vec::new(self.alloc);
-        for number in rest {
-            let part = self.node(&node, *number)?;
-            if matches!(part.kind, NodeKind::Form(Form::Assigned)) {
+        for number in self.parts(&node).get(1..).unwrap_or(&[]) {
+            if matches!(self.node(*number).kind, NodeKind::Form(Form::Assigned)) {
                 assigned.push(*number)?;
             } else {
                 args.push(*number)?;
@@ -94,66 +76,60 @@ impl<'a> Namer<'a> {
         }
         Ok(Given {
             node,
-            name: *name,
+            name: self.part(&node, 0),
             args,
             assigned,
         })
     }
 
     // The same of a node that assigns nothing.
-    pub fn given_alone(&self, whole: &Node, number: usize) -> Result<Given, NameError> {
-        let given = self.given(whole, number)?;
+    fn given_alone(&self, number: usize) -> Named<Given> {
+        let given = self.given(number)?;
         match given.assigned.first() {
             None => Ok(given),
-            Some(assigned) => {
-                let node = self.node(whole, *assigned)?;
-                Err(error_at(&node, Wrong::Assigned))
-            }
+            Some(assigned) => Err(error_at(&self.node(*assigned), Wrong::Assigned)),
         }
     }
 
+    // The trait that is given its arguments.
+    pub fn trait_over(&self, given: &Given) -> Named<usize> {
+        let of = self.trait_of(given.name)?;
+        check_count(&given.node, self.declared_count(of), given.args.len())?;
+        Ok(of)
+    }
+
+    // The trait that a node names which assigns nothing, and its arguments.
+    pub fn trait_alone(&self, number: usize) -> Named<Own> {
+        let given = self.given_alone(number)?;
+        let item = self.trait_over(&given)?;
+        Ok(Own {
+            item,
+            args: given.args,
+        })
+    }
+
     // What the trait of one node declares that another names, over the arguments of both.
-    pub fn own_of(&self, whole: &Node, of: usize, own: usize) -> Result<Own, NameError> {
-        let given = self.given_alone(whole, of)?;
-        let item = self.trait_of(&given.node, given.name)?;
-        let _ = self.item_sort(&given.node, &given.node, item, given.args.len())?;
-        let last = self.given_alone(whole, own)?;
-        let item = self.associated_of(&last.node, item, last.name, last.args.len())?;
-        let mut args = given.args;
-        args.extend_from_slice(&last.args)?;
+    pub fn own_of(&self, of: usize, own: usize) -> Named<Own> {
+        let of = self.trait_alone(of)?;
+        let own = self.given_alone(own)?;
+        let item = self.associated_of(&own.node, of.item, own.name, own.args.len())?;
+        let mut args = of.args;
+        args.extend_from_slice(&own.args)?;
         Ok(Own { item, args })
     }
 
-    // An item over its arguments.
-    pub fn item_term(
-        &mut self,
-        node: &Node,
-        sort: ItemSort,
-        number: usize,
-        args: Parts,
-        below: usize,
-    ) -> Result<Made, NameError> {
-        let term = Term::Item(sort, number, args);
-        self.add(node, term, sort_of(sort), below)
+    // The arguments of an item, behind the type that implements its trait.
+    pub fn implemented(&mut self, ty: usize, args: &[usize], item: usize) -> Named<List> {
+        let mut all = Vec::new(self.alloc);
+        all.push(ty)?;
+        all.extend_from_slice(args)?;
+        self.list(&all, Wanted::Implemented(item))
     }
 
     // What a trait declares, of a type that implements it.
-    pub fn associated(
-        &mut self,
-        node: &Node,
-        ty: usize,
-        of: usize,
-        own: usize,
-    ) -> Result<Made, NameError> {
-        let own = self.own_of(node, of, own)?;
-        let mut args = Vec::new(self.alloc);
-        args.push(ty)?;
-        args.extend_from_slice(&own.args)?;
-        let sort = match self.program.items.get(own.item) {
-            Some(item) => item.sort,
-            None => return Err(error_at(node, Wrong::NotRead)),
-        };
-        let args = self.list(node, &args, Wanted::Implemented(own.item))?;
-        self.item_term(node, sort, own.item, args.parts, args.levels)
+    pub fn associated(&mut self, node: &Node, ty: usize, of: usize, own: usize) -> Named<Made> {
+        let own = self.own_of(of, own)?;
+        let args = self.implemented(ty, &own.args, own.item)?;
+        self.item_term(node, own.item, args)
     }
 }

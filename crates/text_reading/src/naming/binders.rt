@@ -1,6 +1,6 @@
 //! Binders, and the names that they give to what they bind.
 
-use crate::naming::error::{NameError, Wrong, error_at};
+use crate::naming::error::{Named, Wrong, error_at};
 use crate::naming::namer::{Made, Namer};
 use crate::naming::program::{Parts, Sort, Term};
 use crate::naming::terms::given_to;
@@ -74,21 +74,21 @@ pub(super) fn scopes_of(alloc: Global, tree: &Tree) -> Result<Vec<Option<usize>>
 
 impl<'a> Namer<'a> {
     // The name of what a binder binds, and what it stands for: a word alone, or what an impl is generic over.
-    fn bound_name(&self, whole: &Node, number: usize) -> Result<(Node, Sort), NameError> {
-        let node = self.node(whole, number)?;
+    fn bound_name(&self, number: usize) -> Named<(Node, Sort)> {
+        let node = self.node(number);
         if let NodeKind::Leaf(leaf) = node.kind {
             return Ok((node, bound_sort(leaf)));
         }
-        let (name, declared) = self.declared(whole, number)?;
+        let (name, declared) = self.declared(number)?;
         Ok((name, given_to(declared.sort)))
     }
 
     // From here on the names of a node's parts are bound by the binder that this node is of.
-    pub fn declare_bound(&mut self, node: &Node, parts: &[usize]) -> Result<(), NameError> {
+    pub fn declare_bound(&mut self, parts: &[usize]) -> Named<()> {
         let binder = self.made.len();
         for (place, number) in parts.iter().enumerate() {
-            let (leaf, sort) = self.bound_name(node, *number)?;
-            let name = self.text_of(&leaf)?;
+            let (leaf, sort) = self.bound_name(*number)?;
+            let name = self.text_of(&leaf);
             if name == STATIC || self.bound.contains_key(&(binder, name)) {
                 return Err(error_at(&leaf, Wrong::Again));
             }
@@ -116,13 +116,7 @@ impl<'a> Namer<'a> {
     }
 
     // What a binder binds under that name, with so many binders between.
-    fn bound_at(
-        &mut self,
-        node: &Node,
-        bound: Bound,
-        depth: u64,
-        name: &'a str,
-    ) -> Result<Made, NameError> {
+    fn bound_at(&mut self, node: &Node, bound: Bound, depth: u64, name: &'a str) -> Named<Made> {
         let name = self.name(name)?;
         let place = bound.place;
         let term = match bound.sort {
@@ -154,15 +148,11 @@ impl<'a> Namer<'a> {
         leaf: Leaf,
         depth: usize,
         behind: usize,
-    ) -> Result<Made, NameError> {
-        let text = self.text;
-        let Some(digits) = text.get(behind..node.end) else {
-            return Err(error_at(node, Wrong::NotRead));
-        };
-        let (Ok(place), Some(depth)) = (
-            digits.parse::<usize>(),
-            self.binders_around(number).checked_add(depth as u64),
-        ) else {
+    ) -> Named<Made> {
+        let digits = self.text_from(node, behind);
+        let around = self.binders_around(number);
+        let (Ok(place), Some(depth)) = (digits.parse::<usize>(), around.checked_add(depth as u64))
+        else {
             return Err(error_at(node, Wrong::TooLarge));
         };
         let sort = bound_sort(leaf);
@@ -171,13 +161,8 @@ impl<'a> Namer<'a> {
 
     // What a name stands for that a binder gives, if one does; a type or a constant in no binder stands for the one of
     // its place that the nearest binder outside the term binds.
-    pub fn bound_leaf(
-        &mut self,
-        node: &Node,
-        number: usize,
-        leaf: Leaf,
-    ) -> Result<Option<Made>, NameError> {
-        let name = self.text_of(node)?;
+    pub fn bound_leaf(&mut self, node: &Node, number: usize, leaf: Leaf) -> Named<Option<Made>> {
+        let name = self.text_of(node);
         if let Some((depth, bound)) = self.binder_of(number, name) {
             return Ok(Some(self.bound_at(node, bound, depth, name)?));
         }
@@ -193,17 +178,15 @@ impl<'a> Namer<'a> {
     }
 
     // What a binder binds, each as it stands right under the binder, as a list of parts.
-    pub fn variables(&mut self, whole: &Node, number: usize) -> Result<Parts, NameError> {
-        let node = self.node(whole, number)?;
-        let numbers = self.parts(&node)?;
+    pub fn variables(&mut self, number: usize) -> Named<Parts> {
+        let node = self.node(number);
         let first = self.program.parts.len();
-        for (place, number) in numbers.iter().enumerate() {
-            let (name, sort) = self.bound_name(&node, *number)?;
-            let text = self.text_of(&name)?;
+        for (place, number) in self.parts(&node).iter().enumerate() {
+            let (name, sort) = self.bound_name(*number)?;
+            let text = self.text_of(&name);
             let made = self.bound_at(&name, Bound { place, sort }, 0, text)?;
             self.program.parts.push(made.number)?;
         }
-        let behind = self.program.parts.len();
-        Ok(Parts { first, behind })
+        Ok(self.parts_from(first))
     }
 }

@@ -1,6 +1,6 @@
 //! Questions about what predicates imply, of the tree's nodes.
 
-use crate::naming::error::{NameError, Wrong, error_at};
+use crate::naming::error::Named;
 use crate::naming::namer::Namer;
 use crate::naming::program::QuestionKind;
 use crate::reading::{Form, Node, NodeKind};
@@ -13,29 +13,17 @@ struct Counts {
 }
 
 impl<'a> Namer<'a> {
-    // The only number of a node.
-    fn only_count(&self, node: &Node) -> Result<usize, NameError> {
-        let [count] = self.parts(node)? else {
-            return Err(error_at(node, Wrong::NotRead));
-        };
-        self.count(node, *count)
-    }
-
     // The predicates of a question, and what it says behind them.
-    fn split<'b>(
-        &self,
-        whole: &Node,
-        parts: &'b [usize],
-    ) -> Result<(&'b [usize], Counts), NameError> {
+    fn split<'b>(&self, parts: &'b [usize]) -> Named<(&'b [usize], Counts)> {
         let mut counts = Counts {
             limit: None,
             pulls: None,
         };
         for (place, number) in parts.iter().enumerate().rev() {
-            let node = self.node(whole, *number)?;
+            let node = self.node(*number);
             match node.kind {
-                NodeKind::Form(Form::Limit) => counts.limit = Some(self.only_count(&node)?),
-                NodeKind::Form(Form::Pulls) => counts.pulls = Some(self.only_count(&node)?),
+                NodeKind::Form(Form::Limit) => counts.limit = self.count_if(self.parts(&node))?,
+                NodeKind::Form(Form::Pulls) => counts.pulls = self.count_if(self.parts(&node))?,
                 _ => {
                     let clauses = parts.get(..place.saturating_add(1)).unwrap_or(parts);
                     return Ok((clauses, counts));
@@ -46,15 +34,9 @@ impl<'a> Namer<'a> {
     }
 
     // What follows from predicates.
-    pub fn note_elaborated(
-        &mut self,
-        node: &Node,
-        only_self: bool,
-        sized: bool,
-        parts: &[usize],
-    ) -> Result<(), NameError> {
-        let (clauses, counts) = self.split(node, parts)?;
-        let clauses = self.clauses(node, clauses)?;
+    pub fn note_elaborated(&mut self, only_self: bool, sized: bool, parts: &[usize]) -> Named<()> {
+        let (clauses, counts) = self.split(parts)?;
+        let clauses = self.clauses(clauses)?;
         self.note(QuestionKind::Elaborate {
             clauses,
             only_self,
@@ -65,9 +47,9 @@ impl<'a> Namer<'a> {
     }
 
     // The supertraits of a trait that a predicate claims to be implemented.
-    pub fn note_supertraits(&mut self, node: &Node, parts: &[usize]) -> Result<(), NameError> {
-        let (clauses, counts) = self.split(node, parts)?;
-        let clauses = self.clauses(node, clauses)?;
+    pub fn note_supertraits(&mut self, node: &Node, parts: &[usize]) -> Named<()> {
+        let (clauses, counts) = self.split(parts)?;
+        let clauses = self.clauses(clauses)?;
         self.each_implements(node, clauses)?;
         self.note(QuestionKind::Supertraits {
             clause: clauses.first,

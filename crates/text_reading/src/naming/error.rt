@@ -95,6 +95,9 @@ pub enum NameError {
     Wrong { at: usize, end: usize, why: Wrong },
 }
 
+// What is made of a node, unless its text is wrong.
+pub(super) type Named<T> = Result<T, NameError>;
+
 impl From<AllocError> for NameError {
     ghost from_gives = { λ _ e. e ≡ Memory };
 
@@ -133,6 +136,14 @@ pub(super) fn error_at(node: &Node, why: Wrong) -> NameError
         end: node.end,
         why,
     }
+}
+
+// Whether a node gives as many arguments as are expected.
+pub(super) fn check_count(node: &Node, expected: usize, found: usize) -> Named<()> {
+    if expected != found {
+        return Err(error_at(node, Wrong::Count { expected, found }));
+    }
+    Ok(())
 }
 
 // What a leaf that is not known would have to be, where a term of that sort is wanted, if of one.

@@ -1,10 +1,9 @@
 //! Impls, and questions about impls and methods, of the tree's nodes.
 
 use crate::naming::aliases::sort_of;
-use crate::naming::error::{NameError, Wrong, error_at};
+use crate::naming::error::{Named, Wrong, error_at};
 use crate::naming::namer::Namer;
 use crate::naming::program::{Clause, Impl, Method, Parts, QuestionKind, Says};
-use crate::naming::terms::Wanted;
 use crate::reading::{Claim, Node};
 use term_enums::PredicatePolarity;
 
@@ -12,7 +11,7 @@ use term_enums::PredicatePolarity;
 const IMPLEMENTED: Claim = Claim::Trait(PredicatePolarity::Positive);
 
 /// Within which depth a goal is to follow where nothing is said of it.
-pub(super) const DEPTH: usize = 32;
+const DEPTH: usize = 32;
 
 /// The largest depth: the program's stack holds so many goals, each asked for by the one before.
 const MOST_DEPTH: usize = 128;
@@ -26,21 +25,18 @@ fn trait_of_header(header: &Clause) -> Option<usize> {
 }
 
 impl<'a> Namer<'a> {
-    // The header of an impl, and the node of its trait.
-    fn header(&mut self, whole: &Node, number: usize) -> Result<(Node, Clause), NameError> {
-        let node = self.node(whole, number)?;
-        let [generics, of, ty, ..] = self.parts(&node)? else {
-            return Err(error_at(&node, Wrong::NotRead));
-        };
-        let variables = self.variables(&node, *generics)?;
-        let says = self.claims(&node, IMPLEMENTED, *ty, *of)?;
-        Ok((self.node(&node, *of)?, Clause { variables, says }))
+    // The header of an impl.
+    fn header(&mut self, header: &Node) -> Named<Clause> {
+        let variables = self.variables(self.part(header, 0))?;
+        let says = self.claims(IMPLEMENTED, self.part(header, 2), self.part(header, 1))?;
+        Ok(Clause { variables, says })
     }
 
     // Whether the headers of two impls overlap.
-    pub fn note_overlap(&mut self, node: &Node, lhs: usize, rhs: usize) -> Result<(), NameError> {
-        let (_, lhs) = self.header(node, lhs)?;
-        let (of, rhs) = self.header(node, rhs)?;
+    pub fn note_overlap(&mut self, lhs: usize, rhs: usize) -> Named<()> {
+        let (lhs, rhs) = (self.node(lhs), self.node(rhs));
+        let of = self.node(self.part(&rhs, 1));
+        let (lhs, rhs) = (self.header(&lhs)?, self.header(&rhs)?);
         if trait_of_header(&lhs) != trait_of_header(&rhs) {
             return Err(error_at(&of, Wrong::OtherTrait));
         }
@@ -68,15 +64,12 @@ impl<'a> Namer<'a> {
         variables: Parts,
         gives: Clause,
         asks: &[usize],
-    ) -> Result<(), NameError> {
+    ) -> Named<()> {
         let first = self.program.clauses.len();
         self.program.clauses.push(gives)?;
-        let asked = self.clauses(node, asks)?;
+        let asked = self.clauses(asks)?;
         self.each_provable(node, asked)?;
-        let clauses = Parts {
-            first,
-            behind: asked.behind,
-        };
+        let clauses = Parts::new(first, asked.behind);
         self.program.impls.push(Impl {
             number,
             variables,
@@ -86,24 +79,14 @@ impl<'a> Namer<'a> {
     }
 
     // What an impl says that a type or a constant of its trait is.
-    fn assigned(&mut self, given: &Node, number: usize) -> Result<Clause, NameError> {
-        let node = self.node(given, number)?;
-        let ([generics, of, ty, ..], [name, term]) = (self.parts(given)?, self.parts(&node)?) else {
-            return Err(error_at(&node, Wrong::NotRead));
-        };
-        let named = self.given_alone(given, *of)?;
-        let of = self.trait_of(&named.node, named.name)?;
-        let item = self.associated_of(&node, of, *name, 0)?;
-        let sort = match self.program.items.get(item) {
-            Some(found) => found.sort,
-            None => return Err(error_at(&node, Wrong::NotRead)),
-        };
-        let mut args = Vec::new(self.alloc);
-        args.push(*ty)?;
-        args.extend_from_slice(&named.args)?;
-        let args = self.list(&node, &args, Wanted::Implemented(item))?;
-        let term = self.term(&node, *term, Some(sort_of(sort)))?;
-        let variables = self.variables(given, *generics)?;
+    fn assigned(&mut self, given: &Node, number: usize) -> Named<Clause> {
+        let node = self.node(number);
+        let of = self.trait_alone(self.part(given, 1))?;
+        let item = self.associated_of(&node, of.item, self.part(&node, 0), 0)?;
+        let sort = self.item_sort(item);
+        let args = self.implemented(self.part(given, 2), &of.args, item)?;
+        let term = self.term(self.part(&node, 1), Some(sort_of(sort)))?;
+        let variables = self.variables(self.part(given, 0))?;
         let says = Says::ComesTo(sort, item, args.parts, term.number);
         Ok(Clause { variables, says })
     }
@@ -116,17 +99,14 @@ impl<'a> Namer<'a> {
         generics: usize,
         given: usize,
         asks: &[usize],
-    ) -> Result<(), NameError> {
+    ) -> Named<()> {
         let number = self.next_impl();
-        let variables = self.variables(node, generics)?;
-        let (_, header) = self.header(node, given)?;
+        let variables = self.variables(generics)?;
+        let given = self.node(given);
+        let header = self.header(&given)?;
         self.add_rule(node, number, variables, header, asks)?;
-        let given = self.node(node, given)?;
-        let [.., gives] = self.parts(&given)? else {
-            return Err(error_at(&given, Wrong::NotRead));
-        };
-        let gives = self.node(&given, *gives)?;
-        for assigned in self.parts(&gives)? {
+        let gives = self.node(self.part(&given, 3));
+        for assigned in self.parts(&gives) {
             let clause = self.assigned(&given, *assigned)?;
             self.add_rule(node, number, variables, clause, asks)?;
         }
@@ -134,14 +114,14 @@ impl<'a> Namer<'a> {
     }
 
     // The place of the first rule of the impl that has the leaf's number.
-    fn rule_said(&self, whole: &Node, number: usize) -> Result<usize, NameError> {
-        let wanted = self.count(whole, number)?;
+    fn rule_said(&self, number: usize) -> Named<usize> {
+        let wanted = self.count(number)?;
         for (place, rule) in self.program.impls.iter().enumerate() {
             if rule.number == wanted {
                 return Ok(place);
             }
         }
-        Err(error_at(&self.node(whole, number)?, Wrong::NoImpl))
+        Err(error_at(&self.node(number), Wrong::NoImpl))
     }
 
     // The trait of the impl that has a rule, if that is its first one.
@@ -150,20 +130,14 @@ impl<'a> Namer<'a> {
         trait_of_header(self.program.clauses.get(rule.clauses.first)?)
     }
 
-    // Whether two impls overlap, with what each asks for: by their numbers, and within a depth if that is given.
-    pub fn note_impls_overlap(&mut self, node: &Node, parts: &[usize]) -> Result<(), NameError> {
-        let [lhs, rhs, depth @ ..] = parts else {
-            return Err(error_at(node, Wrong::NotRead));
-        };
-        let left = self.rule_said(node, *lhs)?;
-        let right = self.rule_said(node, *rhs)?;
+    // Whether two impls overlap, with what each asks for: by their numbers, and within a depth if one is given.
+    pub fn note_impls_overlap(&mut self, lhs: usize, rhs: usize, depth: &[usize]) -> Named<()> {
+        let left = self.rule_said(lhs)?;
+        let right = self.rule_said(rhs)?;
         if self.trait_said(left) != self.trait_said(right) {
-            return Err(error_at(&self.node(node, *rhs)?, Wrong::OtherTrait));
+            return Err(error_at(&self.node(rhs), Wrong::OtherTrait));
         }
-        let depth = match depth {
-            [number] => self.depth(node, *number)?,
-            _ => DEPTH,
-        };
+        let depth = self.depth(depth)?;
         let impls = self.program.impls.len();
         self.note(QuestionKind::ImplsOverlap {
             left,
@@ -173,18 +147,22 @@ impl<'a> Namer<'a> {
         })
     }
 
-    // The depth of that leaf, if it is none too large.
-    pub fn depth(&self, node: &Node, number: usize) -> Result<usize, NameError> {
-        let depth = self.count(node, number)?;
+    // The depth that is given, or else the one where nothing is said of it.
+    fn depth(&self, given: &[usize]) -> Named<usize> {
+        let [number] = given else {
+            return Ok(DEPTH);
+        };
+        let depth = self.count(*number)?;
         if depth > MOST_DEPTH {
-            return Err(error_at(&self.node(node, number)?, Wrong::TooLarge));
+            return Err(error_at(&self.node(*number), Wrong::TooLarge));
         }
         Ok(depth)
     }
 
-    // Whether a predicate follows from the impls so far and from what is assumed.
-    pub fn note_prove(&mut self, node: &Node, goal: usize, depth: usize) -> Result<(), NameError> {
-        let clauses = self.clauses(node, &[goal])?;
+    // Whether a predicate follows from the impls so far and from what is assumed, within a depth if one is given.
+    pub fn note_prove(&mut self, node: &Node, goal: usize, depth: &[usize]) -> Named<()> {
+        let depth = self.depth(depth)?;
+        let clauses = self.clauses(&[goal])?;
         self.each_provable(node, clauses)?;
         let impls = self.program.impls.len();
         self.note(QuestionKind::Prove {
@@ -194,37 +172,22 @@ impl<'a> Namer<'a> {
         })
     }
 
-    // A method of a table.
-    fn method(&mut self, whole: &Node, number: usize) -> Result<Method, NameError> {
-        let node = self.node(whole, number)?;
-        let [generics, ty, name] = self.parts(&node)? else {
-            return Err(error_at(&node, Wrong::NotRead));
-        };
-        let variables = self.variables(&node, *generics)?;
-        let ty = self.ty(&node, *ty)?;
-        let name = self.node(&node, *name)?;
-        let text = self.text_of(&name)?;
-        let name = self.name(text)?;
-        Ok(Method {
-            variables,
-            ty,
-            name,
-        })
-    }
-
     // Which methods of a table may be for a type.
-    pub fn note_methods(&mut self, node: &Node, parts: &[usize]) -> Result<(), NameError> {
-        let Some((ty, entries)) = parts.split_last() else {
-            return Err(error_at(node, Wrong::NotRead));
-        };
+    pub fn note_methods(&mut self, entries: &[usize], ty: usize) -> Named<()> {
         let first = self.program.methods.len();
         for number in entries {
-            let method = self.method(node, *number)?;
-            self.program.methods.push(method)?;
+            let node = self.node(*number);
+            let variables = self.variables(self.part(&node, 0))?;
+            let ty = self.ty(self.part(&node, 1))?;
+            let name = self.name_of(self.part(&node, 2))?;
+            self.program.methods.push(Method {
+                variables,
+                ty,
+                name,
+            })?;
         }
-        let behind = self.program.methods.len();
-        let of = self.ty(node, *ty)?;
-        let methods = Parts { first, behind };
+        let methods = Parts::new(first, self.program.methods.len());
+        let of = self.ty(ty)?;
         self.note(QuestionKind::Methods { methods, of })
     }
 }

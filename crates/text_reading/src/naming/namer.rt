@@ -1,15 +1,24 @@
 //! What the names of a text mean so far, and the program that was made so far.
 
 use crate::naming::binders::{Bound, scopes_of};
-use crate::naming::error::{NameError, Wrong, error_at};
+use crate::naming::error::{Missing, Named, Wrong, error_at};
 use crate::naming::plain::PLAIN;
-use crate::naming::program::{Mode, Parts, Program, Setup, Sort, Term};
-use crate::reading::{Node, Tree};
+use crate::naming::program::{Declared, Mode, Parts, Program, Setup, Sort, Term};
+use crate::reading::{Form, ItemSort, Node, NodeKind, Tree};
 use std::alloc::{AllocError, Global};
 use std::collections::HashMap;
 
 /// How many levels a term may have, names of `let` followed.
 const LEVELS: usize = 1024;
+
+// Stands for a number that is no node's. Reading leaves no such number.
+const NO_NODE: Node = Node {
+    kind: NodeKind::Form(Form::File),
+    start: 0,
+    end: 0,
+    first: 0,
+    behind: 0,
+};
 
 /// A term that was made: its number, what it stands for, and how many levels it has.
 #[derive(Clone, Copy)]
@@ -57,7 +66,7 @@ pub(super) struct Namer<'a> {
 
 impl<'a> Namer<'a> {
     // Nothing is made, and no name means anything.
-    pub fn new(alloc: Global, text: &'a str, tree: &'a Tree) -> Result<Namer<'a>, NameError> {
+    pub fn new(alloc: Global, text: &'a str, tree: &'a Tree) -> Named<Namer<'a>> {
         let scopes = scopes_of(alloc, tree)?;
         Ok(Namer {
             alloc,
@@ -75,17 +84,14 @@ impl<'a> Namer<'a> {
                 mode: Mode::Analysis,
             },
             budget: None,
-            assumed: Parts {
-                first: 0,
-                behind: 0,
-            },
+            assumed: Parts::new(0, 0),
             stating: None,
             program: Program::new(alloc),
         })
     }
 
     // From here on the names of plain types and of the longest region mean something.
-    pub fn declare_plain(&mut self) -> Result<(), NameError> {
+    pub fn declare_plain(&mut self) -> Named<()> {
         for (name, sort, term) in &PLAIN {
             let made = self.push(*term, *sort, 1)?;
             let _ = self.meanings.insert(*name, Meaning::Term(made))?;
@@ -93,33 +99,59 @@ impl<'a> Namer<'a> {
         Ok(())
     }
 
-    // The text of a node.
-    pub fn text_of(&self, node: &Node) -> Result<&'a str, NameError> {
+    // The text of a node from a byte on.
+    pub fn text_from(&self, node: &Node, start: usize) -> &'a str {
         let text = self.text;
-        text.get(node.start..node.end)
-            .ok_or(error_at(node, Wrong::NotRead))
+        text.get(start..node.end).unwrap_or("")
     }
 
-    // The node of that number, a part of another.
-    pub fn node(&self, whole: &Node, number: usize) -> Result<Node, NameError> {
-        self.tree
-            .nodes
-            .get(number)
-            .copied()
-            .ok_or(error_at(whole, Wrong::NotRead))
+    // The text of a node.
+    pub fn text_of(&self, node: &Node) -> &'a str {
+        self.text_from(node, node.start)
+    }
+
+    // The node of that number.
+    pub fn node(&self, number: usize) -> Node {
+        self.tree.nodes.get(number).copied().unwrap_or(NO_NODE)
     }
 
     // The numbers of a node's parts.
-    pub fn parts(&self, node: &Node) -> Result<&'a [usize], NameError> {
+    pub fn parts(&self, node: &Node) -> &'a [usize] {
         let tree = self.tree;
-        tree.parts
-            .get(node.first..node.behind)
-            .ok_or(error_at(node, Wrong::NotRead))
+        tree.parts.get(node.first..node.behind).unwrap_or(&[])
+    }
+
+    // The number of the part at a place of a node, or one that is no node's.
+    pub fn part(&self, node: &Node, place: usize) -> usize {
+        let numbers = self.parts(node);
+        numbers.get(place).copied().unwrap_or(usize::MAX)
+    }
+
+    // What an item is. All numbers of items are those of some.
+    pub fn item_sort(&self, item: usize) -> ItemSort {
+        match self.program.items.get(item) {
+            Some(item) => item.sort,
+            None => ItemSort::Struct,
+        }
+    }
+
+    // How many parameters an item has; a trait has the type that implements it beside them.
+    pub fn declared_count(&self, item: usize) -> usize {
+        match self.program.items.get(item) {
+            Some(item) => item.declared.len(),
+            None => 0,
+        }
+    }
+
+    // The parameter that an item declares at a place.
+    pub fn declared_at(&self, item: usize, place: usize) -> Option<Declared<'a>> {
+        let item = self.program.items.get(item)?;
+        item.declared.get(place).copied()
     }
 
     // From here on a name means that.
-    pub fn declare(&mut self, node: &Node, meaning: Meaning) -> Result<(), NameError> {
-        let name = self.text_of(node)?;
+    pub fn declare(&mut self, node: &Node, meaning: Meaning) -> Named<()> {
+        let name = self.text_of(node);
         if self.meanings.contains_key(name) {
             return Err(error_at(node, Wrong::Again));
         }
@@ -127,8 +159,14 @@ impl<'a> Namer<'a> {
         Ok(())
     }
 
+    // What a name means, which would have to be that.
+    pub fn meaning(&self, node: &Node, missing: Missing) -> Named<Meaning> {
+        let found = self.meanings.get(self.text_of(node)).copied();
+        found.ok_or(error_at(node, Wrong::Unknown(missing)))
+    }
+
     // The number of a name.
-    pub fn name(&mut self, name: &'a str) -> Result<usize, NameError> {
+    pub fn name(&mut self, name: &'a str) -> Named<usize> {
         if let Some(number) = self.names.get(name) {
             return Ok(*number);
         }
@@ -136,6 +174,12 @@ impl<'a> Namer<'a> {
         let _ = self.names.insert(name, number)?;
         self.program.names.push(name)?;
         Ok(number)
+    }
+
+    // The number of a node's name.
+    pub fn name_of(&mut self, number: usize) -> Named<usize> {
+        let node = self.node(number);
+        self.name(self.text_of(&node))
     }
 
     // Adds a term.
@@ -150,16 +194,15 @@ impl<'a> Namer<'a> {
     }
 
     // Adds the term of a node, over parts that have so many levels.
-    pub fn add(
-        &mut self,
-        node: &Node,
-        term: Term,
-        sort: Sort,
-        below: usize,
-    ) -> Result<Made, NameError> {
+    pub fn add(&mut self, node: &Node, term: Term, sort: Sort, below: usize) -> Named<Made> {
         if below >= LEVELS {
             return Err(error_at(node, Wrong::TooDeep));
         }
         Ok(self.push(term, sort, below + 1)?)
+    }
+
+    // The numbers that were added to the program's parts from a place on.
+    pub fn parts_from(&self, first: usize) -> Parts {
+        Parts::new(first, self.program.parts.len())
     }
 }

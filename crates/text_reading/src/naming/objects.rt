@@ -1,34 +1,13 @@
 //! Trait objects, and what they implement.
 
-use crate::naming::aliases::{Given, sort_of};
-use crate::naming::error::{NameError, Wrong, error_at};
+use crate::naming::aliases::sort_of;
+use crate::naming::error::{Named, Wrong, error_at};
 use crate::naming::namer::{Made, Namer};
 use crate::naming::program::{Parts, Sort, Term};
 use crate::naming::terms::Wanted;
 use crate::reading::{Form, ItemSort, Node, NodeKind};
 
-// What is implemented of a trait, as the predicates so far: their numbers, and how many levels the deepest has.
-#[derive(Drop)]
-struct Predicates {
-    numbers: Vec<usize>,
-    levels: usize,
-}
-
 impl<'a> Namer<'a> {
-    // Adds one more predicate.
-    fn add_predicate(
-        &mut self,
-        node: &Node,
-        term: Term,
-        below: usize,
-        predicates: &mut Predicates,
-    ) -> Result<(), NameError> {
-        let made = self.add(node, term, Sort::Predicate, below)?;
-        predicates.numbers.push(made.number)?;
-        predicates.levels = predicates.levels.max(made.levels);
-        Ok(())
-    }
-
     // What a type or a constant of a trait is.
     fn projects(
         &mut self,
@@ -37,112 +16,76 @@ impl<'a> Namer<'a> {
         item: usize,
         args: &[usize],
         term: usize,
-        predicates: &mut Predicates,
-    ) -> Result<(), NameError> {
-        let wanted = match self.program.items.get(item) {
-            Some(item) => sort_of(item.sort),
-            None => return Err(error_at(node, Wrong::NotRead)),
-        };
-        let args = self.list(node, args, Wanted::Declared(item))?;
-        let term = self.term(node, term, Some(wanted))?;
+    ) -> Named<Made> {
+        let wanted = sort_of(self.item_sort(item));
+        let args = self.list(args, Wanted::Declared(item))?;
+        let term = self.term(term, Some(wanted))?;
         let projects = Term::Projects(variables, item, args.parts, term.number);
-        let below = args.levels.max(term.levels);
-        self.add_predicate(node, projects, below, predicates)
+        self.add(
+            node,
+            projects,
+            Sort::Predicate,
+            args.levels.max(term.levels),
+        )
     }
 
-    // What is assigned to what a trait declares, over the trait's arguments.
-    fn assigns(
+    // Adds that a trait is implemented, and what its types and constants are that are assigned.
+    fn implements(
         &mut self,
-        whole: &Node,
+        node: &Node,
         variables: Parts,
         of: usize,
-        given: &Given,
-        predicates: &mut Predicates,
-    ) -> Result<(), NameError> {
+        predicates: &mut Vec<Made>,
+    ) -> Named<()> {
+        let given = self.given(of)?;
+        let of = self.trait_over(&given)?;
+        let args = self.list(&given.args, Wanted::Declared(of))?;
+        let term = if self.item_sort(of) == ItemSort::AutoTrait {
+            Term::IsAuto(variables, of)
+        } else {
+            Term::Implements(variables, of, args.parts)
+        };
+        predicates.push(self.add(node, term, Sort::Predicate, args.levels)?)?;
         for number in &given.assigned {
-            let node = self.node(whole, *number)?;
-            let [name, term] = self.parts(&node)? else {
-                return Err(error_at(&node, Wrong::NotRead));
-            };
-            let item = self.associated_of(&node, of, *name, 0)?;
-            self.projects(&node, variables, item, &given.args, *term, predicates)?;
+            let node = self.node(*number);
+            let item = self.associated_of(&node, of, self.part(&node, 0), 0)?;
+            let term = self.part(&node, 1);
+            predicates.push(self.projects(&node, variables, item, &given.args, term)?)?;
         }
         Ok(())
     }
 
-    // A trait that is implemented, and what its types and constants are that are assigned.
-    fn implements(
-        &mut self,
-        node: &Node,
-        variables: usize,
-        of: usize,
-        predicates: &mut Predicates,
-    ) -> Result<(), NameError> {
-        let variables = self.variables(node, variables)?;
-        let given = self.given(node, of)?;
-        let item = self.trait_of(&given.node, given.name)?;
-        let sort = self.item_sort(&given.node, &given.node, item, given.args.len())?;
-        let args = self.list(&given.node, &given.args, Wanted::Declared(item))?;
-        let term = if sort == ItemSort::AutoTrait {
-            Term::IsAuto(variables, item)
-        } else {
-            Term::Implements(variables, item, args.parts)
-        };
-        self.add_predicate(node, term, args.levels, predicates)?;
-        self.assigns(&given.node, variables, item, &given, predicates)
-    }
-
-    // What a trait's type or constant is, whose arguments stand behind the trait's.
-    fn is_of(
-        &mut self,
-        node: &Node,
-        variables: usize,
-        of: usize,
-        own: usize,
-        term: usize,
-        predicates: &mut Predicates,
-    ) -> Result<(), NameError> {
-        let variables = self.variables(node, variables)?;
-        let own = self.own_of(node, of, own)?;
-        self.projects(node, variables, own.item, &own.args, term, predicates)
-    }
-
     // Adds what a bound says.
-    fn bound_says(
-        &mut self,
-        whole: &Node,
-        number: usize,
-        predicates: &mut Predicates,
-    ) -> Result<(), NameError> {
-        let node = self.node(whole, number)?;
-        match (node.kind, self.parts(&node)?) {
-            (NodeKind::Form(Form::Implements), [variables, of]) => {
-                self.implements(&node, *variables, *of, predicates)
+    fn bound_says(&mut self, number: usize, predicates: &mut Vec<Made>) -> Named<()> {
+        let node = self.node(number);
+        let variables = self.variables(self.part(&node, 0))?;
+        match (node.kind, self.parts(&node)) {
+            (NodeKind::Form(Form::Implements), [_, of]) => {
+                self.implements(&node, variables, *of, predicates)
             }
-            (NodeKind::Form(Form::Projects), [variables, of, own, term]) => {
-                self.is_of(&node, *variables, *of, *own, *term, predicates)
+            (NodeKind::Form(Form::Projects), [_, of, own, term]) => {
+                let own = self.own_of(*of, *own)?;
+                let made = self.projects(&node, variables, own.item, &own.args, *term)?;
+                Ok(predicates.push(made)?)
             }
             _ => Err(error_at(&node, Wrong::NotRead)),
         }
     }
 
     // A trait object.
-    pub fn object(&mut self, node: &Node, parts: &[usize]) -> Result<Made, NameError> {
-        let Some((region, bounds)) = parts.split_last() else {
-            return Err(error_at(node, Wrong::NotRead));
-        };
-        let mut predicates = Predicates {
-            numbers: Vec::new(self.alloc),
-            levels: 0,
-        };
+    pub fn object(&mut self, node: &Node, bounds: &[usize], region: usize) -> Named<Made> {
+        let mut predicates = Vec::new(self.alloc);
         for bound in bounds {
-            self.bound_says(node, *bound, &mut predicates)?;
+            self.bound_says(*bound, &mut predicates)?;
         }
-        let region = self.term(node, *region, Some(Sort::Region))?;
+        let region = self.term(region, Some(Sort::Region))?;
+        let mut below = region.levels;
         let first = self.program.parts.len();
-        self.program.parts.extend_from_slice(&predicates.numbers)?;
-        let behind = self.program.parts.len();
-        let term = Term::Object(Parts { first, behind }, region.number);
-        self.add(node, term, Sort::Type, predicates.levels.max(region.levels))
+        for predicate in &predicates {
+            self.program.parts.push(predicate.number)?;
+            below = below.max(predicate.levels);
+        }
+        let term = Term::Object(self.parts_from(first), region.number);
+        self.add(node, term, Sort::Type, below)
     }
 }

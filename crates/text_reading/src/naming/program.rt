@@ -51,6 +51,13 @@ pub struct Parts {
     pub behind: usize,
 }
 
+impl Parts {
+    // The range from one place to another.
+    pub(super) fn new(first: usize, behind: usize) -> Parts {
+        Parts { first, behind }
+    }
+}
+
 /// A term over the numbers of other terms, which stand before it. Names and items are numbers too.
 pub enum Term {
     Bool,

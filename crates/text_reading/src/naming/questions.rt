@@ -1,15 +1,15 @@
 //! Questions of the tree's nodes.
 
-use crate::naming::error::{NameError, Wrong, error_at};
-use crate::naming::impls::DEPTH;
+use crate::naming::error::{Named, Wrong, error_at};
 use crate::naming::namer::Namer;
-use crate::naming::program::{Parts, Put, Question, QuestionKind, Sort, VariableId, VariableKind};
-use crate::naming::statements::MOST_VARIABLES;
-use crate::reading::{Form, Leaf, Node, NodeKind};
+use crate::naming::program::{Parts, Put, Question, QuestionKind, Sort};
+use crate::naming::terms::Wanted;
+use crate::naming::variables::variable_at;
+use crate::reading::{Form, Node};
 
 impl<'a> Namer<'a> {
     // Adds a question.
-    pub(super) fn note(&mut self, kind: QuestionKind) -> Result<(), NameError> {
+    pub fn note(&mut self, kind: QuestionKind) -> Named<()> {
         let variables = self.program.variables.len();
         self.program.questions.push(Question {
             kind,
@@ -25,262 +25,127 @@ impl<'a> Namer<'a> {
     }
 
     // The number of a term of any sort.
-    fn any(&mut self, whole: &Node, number: usize) -> Result<usize, NameError> {
-        Ok(self.term(whole, number, None)?.number)
+    pub fn any(&mut self, number: usize) -> Named<usize> {
+        Ok(self.term(number, None)?.number)
     }
 
     // The number of a type.
-    pub(super) fn ty(&mut self, whole: &Node, number: usize) -> Result<usize, NameError> {
-        Ok(self.term(whole, number, Some(Sort::Type))?.number)
+    pub fn ty(&mut self, number: usize) -> Named<usize> {
+        Ok(self.term(number, Some(Sort::Type))?.number)
     }
 
-    // The node that lists some terms, and the nodes of these.
-    fn listing(&self, whole: &Node, number: usize) -> Result<(Node, &'a [usize]), NameError> {
-        let node = self.node(whole, number)?;
-        if !matches!(node.kind, NodeKind::Form(Form::Terms)) {
-            return Err(error_at(&node, Wrong::NotRead));
-        }
-        let numbers = self.parts(&node)?;
-        Ok((node, numbers))
+    // The number of a region.
+    fn region(&mut self, number: usize) -> Named<usize> {
+        Ok(self.term(number, Some(Sort::Region))?.number)
     }
 
     // The terms of a node that lists some.
-    fn listed(&mut self, whole: &Node, number: usize) -> Result<Parts, NameError> {
-        let (node, numbers) = self.listing(whole, number)?;
-        self.terms(&node, numbers)
-    }
-
-    // The sort of the term at a place of a list, if the list has that place.
-    fn sort_at(
-        &mut self,
-        node: &Node,
-        terms: &[usize],
-        place: usize,
-    ) -> Result<Option<Sort>, NameError> {
-        match terms.get(place) {
-            Some(number) => Ok(Some(self.term(node, *number, None)?.sort)),
-            None => Ok(None),
-        }
+    fn listed(&mut self, number: usize) -> Named<Parts> {
+        let numbers = self.parts(&self.node(number));
+        Ok(self.list(numbers, Wanted::Any)?.parts)
     }
 
     // The terms of two lists, each of the second of the sort of its partner in the first.
-    fn paired(&mut self, node: &Node, lhs: usize, rhs: usize) -> Result<(Parts, Parts), NameError> {
-        let (left, left_terms) = self.listing(node, lhs)?;
-        let (right, right_terms) = self.listing(node, rhs)?;
-        let lhs = self.terms(&left, left_terms)?;
+    fn paired(&mut self, lhs: usize, rhs: usize) -> Named<(Parts, Parts)> {
+        let left = self.parts(&self.node(lhs));
+        let right = self.parts(&self.node(rhs));
+        let lhs = self.listed(lhs)?;
         let first = self.program.parts.len();
-        for (place, number) in right_terms.iter().enumerate() {
-            let sort = self.sort_at(&left, left_terms, place)?;
-            let made = self.term(&right, *number, sort)?;
+        for (place, number) in right.iter().enumerate() {
+            let sort = match left.get(place) {
+                Some(partner) => Some(self.term(*partner, None)?.sort),
+                None => None,
+            };
+            let made = self.term(*number, sort)?;
             self.program.parts.push(made.number)?;
         }
-        let behind = self.program.parts.len();
-        Ok((lhs, Parts { first, behind }))
-    }
-
-    // A term, of that sort if one is wanted, and the region that it outlives.
-    fn outliving(
-        &mut self,
-        whole: &Node,
-        number: usize,
-        sort: Option<Sort>,
-    ) -> Result<(usize, usize), NameError> {
-        let node = self.node(whole, number)?;
-        let [term, region] = self.parts(&node)? else {
-            return Err(error_at(&node, Wrong::NotRead));
-        };
-        if !matches!(node.kind, NodeKind::Form(Form::Outlives)) {
-            return Err(error_at(&node, Wrong::NotRead));
-        }
-        let term = self.term(&node, *term, sort)?.number;
-        let region = self.term(&node, *region, Some(Sort::Region))?.number;
-        Ok((term, region))
+        Ok((lhs, self.parts_from(first)))
     }
 
     // Terms, of that sort if one is wanted, and the regions that they outlive, as two lists of parts.
-    fn outliving_all(
-        &mut self,
-        node: &Node,
-        parts: &[usize],
-        sort: Option<Sort>,
-    ) -> Result<(Parts, Parts), NameError> {
+    fn outliving(&mut self, numbers: &[usize], sort: Option<Sort>) -> Named<(Parts, Parts)> {
+        let mut regions = Vec::new(self.alloc);
         let first = self.program.parts.len();
-        for number in parts {
-            let (term, _) = self.outliving(node, *number, sort)?;
+        for number in numbers {
+            let node = self.node(*number);
+            let term = self.term(self.part(&node, 0), sort)?.number;
             self.program.parts.push(term)?;
+            regions.push(self.region(self.part(&node, 1))?)?;
         }
-        let middle = self.program.parts.len();
-        for number in parts {
-            let (_, region) = self.outliving(node, *number, sort)?;
-            self.program.parts.push(region)?;
-        }
-        let behind = self.program.parts.len();
-        let terms = Parts {
-            first,
-            behind: middle,
-        };
-        let regions = Parts {
-            first: middle,
-            behind,
-        };
-        Ok((terms, regions))
+        let terms = self.parts_from(first);
+        self.program.parts.extend_from_slice(&regions)?;
+        Ok((terms, self.parts_from(terms.behind)))
     }
 
-    // A term and the one that is put for it, which is of its sort.
-    fn put(&mut self, whole: &Node, number: usize) -> Result<Put<usize>, NameError> {
-        let node = self.node(whole, number)?;
-        let [from, to] = self.parts(&node)? else {
-            return Err(error_at(&node, Wrong::NotRead));
-        };
-        let from = self.term(&node, *from, None)?;
-        let to = self.term(&node, *to, Some(from.sort))?;
-        Ok(Put {
-            from: from.number,
-            to: to.number,
-        })
-    }
-
-    // What comes of a term where others are put for its parts.
-    fn fold(
-        &mut self,
-        node: &Node,
-        term: usize,
-        puts: &[usize],
-    ) -> Result<QuestionKind, NameError> {
-        let term = self.any(node, term)?;
+    // Terms and those that are put for them, each of the sort of its own, as a range of the program's list.
+    fn puts(&mut self, numbers: &[usize]) -> Named<Parts> {
         let first = self.program.puts.len();
-        for number in puts {
-            let put = self.put(node, *number)?;
-            self.program.puts.push(put)?;
+        for number in numbers {
+            let node = self.node(*number);
+            let from = self.term(self.part(&node, 0), None)?;
+            let to = self.term(self.part(&node, 1), Some(from.sort))?.number;
+            let from = from.number;
+            self.program.puts.push(Put { from, to })?;
         }
-        let behind = self.program.puts.len();
-        let puts = Parts { first, behind };
-        Ok(QuestionKind::Fold { term, puts })
+        Ok(Parts::new(first, self.program.puts.len()))
     }
 
-    // What a walk of a term yields that skips after some pulls.
-    fn walk(
-        &mut self,
-        node: &Node,
-        term: usize,
-        skips: &[usize],
-    ) -> Result<QuestionKind, NameError> {
-        let term = self.any(node, term)?;
+    // After how many pulls a walk skips, as a range of the program's list.
+    fn skips(&mut self, numbers: &[usize]) -> Named<Parts> {
         let first = self.program.skips.len();
-        for number in skips {
-            let pulls = self.count(node, *number)?;
+        for number in numbers {
+            let pulls = self.count(*number)?;
             self.program.skips.push(pulls)?;
         }
-        let behind = self.program.skips.len();
-        let skips = Parts { first, behind };
-        Ok(QuestionKind::Walk { term, skips })
-    }
-
-    // The variable that a leaf names.
-    fn variable_id(&self, whole: &Node, number: usize) -> Result<VariableId, NameError> {
-        let leaf = self.node(whole, number)?;
-        let (kind, number) = match leaf.kind {
-            NodeKind::Leaf(Leaf::TyVar(number)) => (VariableKind::Ty, number),
-            NodeKind::Leaf(Leaf::IntVar(number)) => (VariableKind::Int, number),
-            NodeKind::Leaf(Leaf::FloatVar(number)) => (VariableKind::Float, number),
-            NodeKind::Leaf(Leaf::ConstVar(number)) => (VariableKind::Const, number),
-            NodeKind::Leaf(Leaf::RegionVar(number)) => (VariableKind::Region, number),
-            _ => return Err(error_at(&leaf, Wrong::NotRead)),
-        };
-        if number >= MOST_VARIABLES {
-            return Err(error_at(&leaf, Wrong::TooManyVariables));
-        }
-        Ok(VariableId { kind, number })
+        Ok(Parts::new(first, self.program.skips.len()))
     }
 
     // What is asked of one term, or of variables.
-    fn asked_of_one(
-        &mut self,
-        node: &Node,
-        form: Form,
-        parts: &[usize],
-    ) -> Result<Option<QuestionKind>, NameError> {
+    fn asked_of_one(&mut self, form: Form, parts: &[usize]) -> Named<Option<QuestionKind>> {
         let kind = match (form, parts) {
-            (Form::Components, [ty]) => QuestionKind::Components(self.ty(node, *ty)?),
-            (Form::Rigid, [ty]) => QuestionKind::Rigid(self.ty(node, *ty)?),
-            (Form::Escapes, [term]) => QuestionKind::Escapes(self.any(node, *term)?),
-            (Form::Infers, [term]) => QuestionKind::Infers(self.any(node, *term)?),
+            (Form::Components, [ty]) => QuestionKind::Components(self.ty(*ty)?),
+            (Form::Rigid, [ty]) => QuestionKind::Rigid(self.ty(*ty)?),
+            (Form::Escapes, [term]) => QuestionKind::Escapes(self.any(*term)?),
+            (Form::Infers, [term]) => QuestionKind::Infers(self.any(*term)?),
             (Form::Key(params), [ty]) => {
-                let ty = self.ty(node, *ty)?;
+                let ty = self.ty(*ty)?;
                 QuestionKind::Key { params, ty }
             }
-            (Form::Walk, [term, skips @ ..]) => self.walk(node, *term, skips)?,
-            (Form::Fold, [term, puts @ ..]) => self.fold(node, *term, puts)?,
-            (Form::SupertraitIds, [name]) => {
-                QuestionKind::SupertraitIds(self.trait_of(node, *name)?)
+            (Form::Walk, [term, skips @ ..]) => {
+                let term = self.any(*term)?;
+                let skips = self.skips(skips)?;
+                QuestionKind::Walk { term, skips }
             }
+            (Form::Fold, [term, puts @ ..]) => {
+                let term = self.any(*term)?;
+                let puts = self.puts(puts)?;
+                QuestionKind::Fold { term, puts }
+            }
+            (Form::SupertraitIds, [name]) => QuestionKind::SupertraitIds(self.trait_of(*name)?),
             (Form::Binding, [variable]) => {
-                QuestionKind::Binding(self.variable_id(node, *variable)?)
+                QuestionKind::Binding(variable_at(&self.node(*variable))?)
             }
             (Form::One, [first, second]) => {
-                let first = self.variable_id(node, *first)?;
-                QuestionKind::One(first, self.variable_id(node, *second)?)
+                let first = variable_at(&self.node(*first))?;
+                QuestionKind::One(first, variable_at(&self.node(*second))?)
             }
             _ => return Ok(None),
         };
         Ok(Some(kind))
     }
 
-    // What is asked of lists of terms.
-    fn asked_of_lists(
-        &mut self,
-        node: &Node,
-        form: Form,
-        parts: &[usize],
-    ) -> Result<Option<QuestionKind>, NameError> {
-        let kind = match (form, parts) {
-            (Form::ArgsMayUnify(params), [lhs, rhs]) => {
-                let (lhs, rhs) = self.paired(node, *lhs, *rhs)?;
-                QuestionKind::ArgsMayUnify { params, lhs, rhs }
-            }
-            (Form::ArgsEqual, [lhs, rhs]) => {
-                let (lhs, rhs) = self.paired(node, *lhs, *rhs)?;
-                QuestionKind::RelateArgs { lhs, rhs }
-            }
-            (Form::Visit, [term, skip, stop]) => {
-                let term = self.any(node, *term)?;
-                let skip = self.listed(node, *skip)?;
-                let stop = self.listed(node, *stop)?;
-                QuestionKind::Visit { term, skip, stop }
-            }
-            (Form::Assumptions, _) => {
-                let (terms, regions) = self.outliving_all(node, parts, None)?;
-                QuestionKind::Assumptions { terms, regions }
-            }
-            (Form::Solve, _) => {
-                let (longer, shorter) = self.outliving_all(node, parts, Some(Sort::Region))?;
-                QuestionKind::Solve { longer, shorter }
-            }
-            _ => return self.asked_of_one(node, form, parts),
-        };
-        Ok(Some(kind))
-    }
-
     // What is asked of terms, if that is a question.
-    fn asked(
-        &mut self,
-        node: &Node,
-        form: Form,
-        parts: &[usize],
-    ) -> Result<Option<QuestionKind>, NameError> {
+    fn asked(&mut self, form: Form, parts: &[usize]) -> Named<Option<QuestionKind>> {
         let kind = match (form, parts) {
             (Form::Question(relation), [lhs, rhs]) => {
-                let lhs = self.ty(node, *lhs)?;
-                let rhs = self.ty(node, *rhs)?;
+                let lhs = self.ty(*lhs)?;
+                let rhs = self.ty(*rhs)?;
                 QuestionKind::Relate { lhs, relation, rhs }
             }
             (Form::MayUnify(params), [lhs, rhs, depth @ ..]) => {
-                let depth = match depth {
-                    [number] => Some(self.count(node, *number)?),
-                    _ => None,
-                };
-                let lhs = self.ty(node, *lhs)?;
-                let rhs = self.ty(node, *rhs)?;
+                let depth = self.count_if(depth)?;
+                let lhs = self.ty(*lhs)?;
+                let rhs = self.ty(*rhs)?;
                 QuestionKind::MayUnify {
                     params,
                     lhs,
@@ -288,13 +153,35 @@ impl<'a> Namer<'a> {
                     depth,
                 }
             }
-            _ => return self.asked_of_lists(node, form, parts),
+            (Form::ArgsMayUnify(params), [lhs, rhs]) => {
+                let (lhs, rhs) = self.paired(*lhs, *rhs)?;
+                QuestionKind::ArgsMayUnify { params, lhs, rhs }
+            }
+            (Form::ArgsEqual, [lhs, rhs]) => {
+                let (lhs, rhs) = self.paired(*lhs, *rhs)?;
+                QuestionKind::RelateArgs { lhs, rhs }
+            }
+            (Form::Visit, [term, skip, stop]) => {
+                let term = self.any(*term)?;
+                let skip = self.listed(*skip)?;
+                let stop = self.listed(*stop)?;
+                QuestionKind::Visit { term, skip, stop }
+            }
+            (Form::Assumptions, _) => {
+                let (terms, regions) = self.outliving(parts, None)?;
+                QuestionKind::Assumptions { terms, regions }
+            }
+            (Form::Solve, _) => {
+                let (longer, shorter) = self.outliving(parts, Some(Sort::Region))?;
+                QuestionKind::Solve { longer, shorter }
+            }
+            _ => return self.asked_of_one(form, parts),
         };
         Ok(Some(kind))
     }
 
     // The last question is asked in the context that the one before left.
-    fn note_then(&mut self, node: &Node) -> Result<(), NameError> {
+    fn note_then(&mut self, node: &Node) -> Named<()> {
         let any = self.program.questions.len() > 1;
         match self.program.questions.last_mut() {
             Some(question) if any => {
@@ -306,10 +193,10 @@ impl<'a> Namer<'a> {
     }
 
     // The last question is asked that many times.
-    fn note_again(&mut self, node: &Node, times: usize) -> Result<(), NameError> {
-        let repeat = self.count(node, times)?;
+    fn note_again(&mut self, times: usize) -> Named<()> {
+        let repeat = self.count(times)?;
         if repeat == 0 {
-            return Err(error_at(&self.node(node, times)?, Wrong::NoTime));
+            return Err(error_at(&self.node(times), Wrong::NoTime));
         }
         if let Some(question) = self.program.questions.last_mut() {
             question.repeat = repeat;
@@ -317,34 +204,35 @@ impl<'a> Namer<'a> {
         Ok(())
     }
 
-    // A question, or a part of one.
-    pub fn question(&mut self, node: &Node, form: Form, parts: &[usize]) -> Result<(), NameError> {
-        if let Some(kind) = self.asked(node, form, parts)? {
+    // A question, or what stands in a statement or in a question and is made with it.
+    pub fn question(&mut self, node: &Node, form: Form, parts: &[usize]) -> Named<()> {
+        if let Some(kind) = self.asked(form, parts)? {
             return self.note(kind);
         }
         match (form, parts) {
-            (Form::Count(counted), [_]) => {
+            (Form::Count(counted), _) => {
                 if let Some(question) = self.program.questions.last_mut() {
                     question.counts = Some(counted);
                 }
                 Ok(())
             }
-            (Form::Then, [_]) => self.note_then(node),
-            (Form::Repeat, [times, _]) => self.note_again(node, *times),
+            (Form::Then, _) => self.note_then(node),
+            (Form::Repeat, [times, _]) => self.note_again(*times),
             (Form::Elaborate { only_self, sized }, _) => {
-                self.note_elaborated(node, only_self, sized, parts)
+                self.note_elaborated(only_self, sized, parts)
             }
             (Form::Supertraits, _) => self.note_supertraits(node, parts),
-            (Form::Overlap, [lhs, rhs]) => self.note_overlap(node, *lhs, *rhs),
-            (Form::ImplsOverlap, _) => self.note_impls_overlap(node, parts),
-            (Form::Methods, _) => self.note_methods(node, parts),
-            (Form::Prove, [goal]) => self.note_prove(node, *goal, DEPTH),
-            (Form::Prove, [goal, depth]) => {
-                let depth = self.depth(node, *depth)?;
-                self.note_prove(node, *goal, depth)
-            }
-            (Form::ImplHeader | Form::Method, _) => Ok(()),
-            (Form::Terms | Form::Put | Form::Outlives | Form::Error, _) => Ok(()),
+            (Form::Overlap, [lhs, rhs]) => self.note_overlap(*lhs, *rhs),
+            (Form::ImplsOverlap, [lhs, rhs, depth @ ..]) => self.note_impls_overlap(*lhs, *rhs, depth),
+            (Form::Methods, [methods @ .., ty]) => self.note_methods(methods, *ty),
+            (Form::Prove, [goal, depth @ ..]) => self.note_prove(node, *goal, depth),
+            (Form::File | Form::Parameters | Form::Terms | Form::Error, _) => Ok(()),
+            (Form::Declared(_) | Form::DeclaredConst(_) | Form::Named | Form::Assigned, _) => Ok(
+                (),
+            ),
+            (Form::Implements | Form::Projects | Form::Given | Form::Gives, _) => Ok(()),
+            (Form::Claims(_) | Form::OutlivesUnder | Form::ComesTo | Form::Says, _) => Ok(()),
+            (Form::ImplHeader | Form::Method | Form::Put | Form::Outlives, _) => Ok(()),
             (Form::Limit | Form::Pulls, _) => Ok(()),
             _ => Err(error_at(node, Wrong::NotRead)),
         }

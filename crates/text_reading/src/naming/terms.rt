@@ -1,12 +1,12 @@
 //! Terms of the tree's nodes.
 
-use crate::naming::aliases::is_trait;
-use crate::naming::error::{Missing, NameError, Wrong, error_at, missing_at};
+use crate::naming::aliases::{is_trait, sort_of};
+use crate::naming::error::{Missing, Named, Wrong, check_count, error_at, missing_at};
 use crate::naming::namer::{Made, Meaning, Namer};
 use crate::naming::plain::{USIZE, number_size};
-use crate::naming::program::{ParamSort, Parts, Sort, Term};
-use crate::naming::statements::MOST_VARIABLES;
-use crate::reading::{Form, ItemSort, Leaf, Node, NodeKind};
+use crate::naming::program::{ParamSort, Parts, Sort, Term, VariableKind};
+use crate::naming::variables::variable_at;
+use crate::reading::{Form, Leaf, Node, NodeKind};
 use term_enums::FnHeader;
 
 // What the members of a list are to be: of any sort, of one, the first of one and all others of another, what an item
@@ -26,6 +26,15 @@ pub(super) fn given_to(param: ParamSort) -> Sort {
         ParamSort::Region => Sort::Region,
         ParamSort::Type => Sort::Type,
         ParamSort::Const => Sort::Const,
+    }
+}
+
+// A parameter of that index and name.
+pub(super) fn parameter(sort: Sort, index: u32, name: usize) -> Term {
+    match sort {
+        Sort::Region => Term::RegionParam(index, name),
+        Sort::Const => Term::ConstParam(index, name),
+        _ => Term::TyParam(index, name),
     }
 }
 
@@ -75,9 +84,8 @@ pub(super) struct List {
 
 impl<'a> Namer<'a> {
     // The sort of what an item declares at a place.
-    fn declared_at(&self, item: usize, place: usize) -> Option<Sort> {
-        let item = self.program.items.get(item)?;
-        let declared = item.declared.get(place)?;
+    fn declared_sort(&self, item: usize, place: usize) -> Option<Sort> {
+        let declared = self.declared_at(item, place)?;
         Some(given_to(declared.sort))
     }
 
@@ -87,253 +95,164 @@ impl<'a> Namer<'a> {
             Wanted::Any => None,
             Wanted::Each(sort) => Some(sort),
             Wanted::First(first, others) => Some(if place == 0 { first } else { others }),
-            Wanted::Declared(item) => self.declared_at(item, place),
+            Wanted::Declared(item) => self.declared_sort(item, place),
             Wanted::Implemented(item) => match place.checked_sub(1) {
                 None => Some(Sort::Type),
-                Some(place) => self.declared_at(item, place),
+                Some(place) => self.declared_sort(item, place),
             },
         }
     }
 
     // The terms of those nodes, as a list of parts.
-    pub fn list(
-        &mut self,
-        whole: &Node,
-        nodes: &[usize],
-        wanted: Wanted,
-    ) -> Result<List, NameError> {
+    pub fn list(&mut self, nodes: &[usize], wanted: Wanted) -> Named<List> {
         let first = self.program.parts.len();
         let mut levels = 0;
         for (place, number) in nodes.iter().enumerate() {
             let sort = self.wanted_at(wanted, place);
-            let made = self.term(whole, *number, sort)?;
+            let made = self.term(*number, sort)?;
             self.program.parts.push(made.number)?;
             levels = levels.max(made.levels);
         }
-        let behind = self.program.parts.len();
-        let parts = Parts { first, behind };
+        let parts = self.parts_from(first);
         Ok(List { parts, levels })
     }
 
-    // The terms of those nodes, of whatever sorts, as a list of parts.
-    pub fn terms(&mut self, whole: &Node, nodes: &[usize]) -> Result<Parts, NameError> {
-        let list = self.list(whole, nodes, Wanted::Any)?;
-        Ok(list.parts)
+    // An item over its arguments.
+    pub fn item_term(&mut self, node: &Node, item: usize, args: List) -> Named<Made> {
+        let sort = self.item_sort(item);
+        let term = Term::Item(sort, item, args.parts);
+        self.add(node, term, sort_of(sort), args.levels)
     }
 
-    // The sort of an item that is given so many arguments. The node names the item, and the whole has the arguments.
-    pub fn item_sort(
-        &self,
-        whole: &Node,
-        node: &Node,
-        number: usize,
-        found: usize,
-    ) -> Result<ItemSort, NameError> {
-        let Some(item) = self.program.items.get(number) else {
-            return Err(error_at(node, Wrong::NotRead));
-        };
-        let expected = item.declared.len();
-        if expected != found {
-            return Err(error_at(whole, Wrong::Count { expected, found }));
-        }
-        Ok(item.sort)
-    }
-
-    // The sort of an item that is given so many arguments, and is no trait.
-    fn type_sort(
-        &self,
-        whole: &Node,
-        node: &Node,
-        number: usize,
-        found: usize,
-    ) -> Result<ItemSort, NameError> {
-        let sort = self.item_sort(whole, node, number, found)?;
-        if is_trait(sort) {
+    // The item that a node names is no trait, and the whole gives it that many arguments.
+    fn check_item(&self, whole: &Node, node: &Node, item: usize, found: usize) -> Named<()> {
+        check_count(whole, self.declared_count(item), found)?;
+        if is_trait(self.item_sort(item)) {
             return Err(error_at(node, Wrong::IsTrait));
         }
-        Ok(sort)
+        Ok(())
     }
 
     // An item that has no parameters.
-    fn item_alone(&mut self, node: &Node, number: usize) -> Result<Made, NameError> {
-        let sort = self.type_sort(node, node, number, 0)?;
-        let first = self.program.parts.len();
-        let parts = Parts {
-            first,
-            behind: first,
-        };
-        self.item_term(node, sort, number, parts, 0)
-    }
-
-    // What a name means, which would have to be that.
-    pub fn meaning(&self, node: &Node, missing: Missing) -> Result<Meaning, NameError> {
-        let name = self.text_of(node)?;
-        match self.meanings.get(name) {
-            Some(meaning) => Ok(*meaning),
-            None => Err(error_at(node, Wrong::Unknown(missing))),
-        }
+    fn item_alone(&mut self, node: &Node, item: usize) -> Named<Made> {
+        self.check_item(node, node, item, 0)?;
+        let parts = self.parts_from(self.program.parts.len());
+        self.item_term(node, item, List { parts, levels: 0 })
     }
 
     // What a name means as a term.
-    fn named(&mut self, node: &Node, missing: Missing) -> Result<Made, NameError> {
+    fn named(&mut self, node: &Node, missing: Missing) -> Named<Made> {
         if let Some(own) = self.own_parameter(node)? {
             return Ok(own);
         }
         match self.meaning(node, missing)? {
             Meaning::Term(made) => Ok(made),
-            Meaning::Item(number) => self.item_alone(node, number),
+            Meaning::Item(item) => self.item_alone(node, item),
         }
     }
 
-    // A variable of a sort.
-    fn variable(
-        &mut self,
-        node: &Node,
-        number: usize,
-        term: Term,
-        sort: Sort,
-    ) -> Result<Made, NameError> {
-        if number >= MOST_VARIABLES {
-            return Err(error_at(node, Wrong::TooManyVariables));
-        }
+    // A variable.
+    fn variable(&mut self, node: &Node) -> Named<Made> {
+        let variable = variable_at(node)?;
+        let number = variable.number;
+        let (term, sort) = match variable.kind {
+            VariableKind::Ty => (Term::TyVar(number), Sort::Type),
+            VariableKind::Int => (Term::IntVar(number), Sort::Type),
+            VariableKind::Float => (Term::FloatVar(number), Sort::Type),
+            VariableKind::Const => (Term::ConstVar(number), Sort::Const),
+            VariableKind::Region => (Term::RegionVar(number), Sort::Region),
+        };
         self.add(node, term, sort, 0)
     }
 
-    // A number, whose type is named behind its digits.
-    fn number(&mut self, node: &Node, value: u128, behind: usize) -> Result<Made, NameError> {
-        let text = self.text;
-        let ty = match text.get(behind..node.end) {
-            None => return Err(error_at(node, Wrong::NotRead)),
-            Some("") => USIZE,
-            Some(name) => match self.meanings.get(name) {
-                Some(Meaning::Term(made)) => made.number,
-                _ => return Err(error_at(node, Wrong::NumberType)),
-            },
+    // The type that is named behind the digits of a number, with its size and its greatest number.
+    fn number_type(&self, name: &str) -> Option<(usize, u8, u128)> {
+        let ty = match (name, self.meanings.get(name)) {
+            ("", _) => USIZE,
+            (_, Some(Meaning::Term(made))) => made.number,
+            _ => return None,
         };
-        let Some((size, greatest)) = self.program.terms.get(ty).and_then(|ty| number_size(*ty))
-        else {
-            return Err(error_at(node, Wrong::NumberType));
-        };
+        let (size, greatest) = number_size(*self.program.terms.get(ty)?)?;
+        Some((ty, size, greatest))
+    }
+
+    // A number.
+    fn number(&mut self, node: &Node, value: u128, behind: usize) -> Named<Made> {
+        let ty = self.number_type(self.text_from(node, behind));
+        let (ty, size, greatest) = ty.ok_or(error_at(node, Wrong::NumberType))?;
         if value > greatest {
             return Err(error_at(node, Wrong::TooLarge));
         }
         self.add(node, Term::Number(ty, value, size), Sort::Const, 0)
     }
 
-    // The place and the name of a placeholder, one of which is behind its universe.
-    fn place(&mut self, node: &Node, behind: usize) -> Result<(usize, usize), NameError> {
-        let text = self.text;
-        let Some(name) = text.get(behind..node.end) else {
-            return Err(error_at(node, Wrong::NotRead));
-        };
-        let place = match name.strip_prefix('.') {
-            None => 0,
-            Some(digits) => match digits.parse::<usize>() {
-                Ok(place) => place,
-                Err(_) => return Err(error_at(node, Wrong::Place)),
-            },
-        };
-        Ok((place, self.name(name)?))
-    }
-
-    // A placeholder that is no region. It is a type where no constant is wanted.
+    // A placeholder, behind whose universe its name stands, or its place.
     fn placeholder(
         &mut self,
         node: &Node,
         universe: usize,
         behind: usize,
-        expected: Option<Sort>,
-    ) -> Result<Made, NameError> {
-        let (place, name) = self.place(node, behind)?;
-        if expected == Some(Sort::Const) {
-            let term = Term::ConstPlaceholder(universe, place, name);
-            return self.add(node, term, Sort::Const, 0);
-        }
-        let term = Term::TyPlaceholder(universe, place, name);
-        self.add(node, term, Sort::Type, 0)
+        sort: Sort,
+    ) -> Named<Made> {
+        let text = self.text_from(node, behind);
+        let place = match text.strip_prefix('.') {
+            None => 0,
+            Some(digits) => digits.parse().map_err(|_| error_at(node, Wrong::Place))?,
+        };
+        let name = self.name(text)?;
+        let term = match sort {
+            Sort::Region => Term::RegionPlaceholder(universe, place, name),
+            Sort::Const => Term::ConstPlaceholder(universe, place, name),
+            _ => Term::TyPlaceholder(universe, place, name),
+        };
+        self.add(node, term, sort, 0)
     }
 
-    // A placeholder that is a region.
-    fn region_placeholder(
-        &mut self,
-        node: &Node,
-        universe: usize,
-        behind: usize,
-    ) -> Result<Made, NameError> {
-        let (place, name) = self.place(node, behind)?;
-        let term = Term::RegionPlaceholder(universe, place, name);
-        self.add(node, term, Sort::Region, 0)
-    }
-
-    // What could not be told. It is a type where no constant is wanted.
-    fn error(&mut self, node: &Node, expected: Option<Sort>) -> Result<Made, NameError> {
-        if expected == Some(Sort::Const) {
-            return self.add(node, Term::ConstError, Sort::Const, 0);
-        }
-        self.add(node, Term::TyError, Sort::Type, 0)
-    }
-
-    // What a name means that a binder may give.
-    fn named_or_bound(
-        &mut self,
-        node: &Node,
-        number: usize,
-        leaf: Leaf,
-        expected: Option<Sort>,
-    ) -> Result<Made, NameError> {
-        match self.bound_leaf(node, number, leaf)? {
-            Some(made) => Ok(made),
-            None => self.named(node, missing_at(leaf, expected)),
-        }
+    // What could not be told.
+    fn error(&mut self, node: &Node, sort: Sort) -> Named<Made> {
+        let term = if sort == Sort::Const {
+            Term::ConstError
+        } else {
+            Term::TyError
+        };
+        self.add(node, term, sort, 0)
     }
 
     // The term of a leaf, the node of that number.
     fn leaf(
         &mut self,
         node: &Node,
-        place: usize,
+        number: usize,
         leaf: Leaf,
         expected: Option<Sort>,
-    ) -> Result<Made, NameError> {
+    ) -> Named<Made> {
         match leaf {
             Leaf::Name | Leaf::Lifetime | Leaf::BoundTy | Leaf::BoundConst => {
-                self.named_or_bound(node, place, leaf, expected)
+                match self.bound_leaf(node, number, leaf)? {
+                    Some(made) => Ok(made),
+                    None => self.named(node, missing_at(leaf, expected)),
+                }
             }
             Leaf::OuterTy { depth, behind }
             | Leaf::OuterConst { depth, behind }
-            | Leaf::OuterRegion { depth, behind } => self.outer(node, place, leaf, depth, behind),
+            | Leaf::OuterRegion { depth, behind } => self.outer(node, number, leaf, depth, behind),
             Leaf::Number { value, behind } => self.number(node, value, behind),
-            Leaf::TyVar(number) => self.variable(node, number, Term::TyVar(number), Sort::Type),
-            Leaf::IntVar(number) => self.variable(node, number, Term::IntVar(number), Sort::Type),
-            Leaf::FloatVar(number) => {
-                self.variable(node, number, Term::FloatVar(number), Sort::Type)
-            }
-            Leaf::ConstVar(number) => {
-                self.variable(node, number, Term::ConstVar(number), Sort::Const)
-            }
-            Leaf::RegionVar(number) => {
-                self.variable(node, number, Term::RegionVar(number), Sort::Region)
-            }
             Leaf::RegionPlaceholder { universe, behind } => {
-                self.region_placeholder(node, universe, behind)
+                self.placeholder(node, universe, behind, Sort::Region)
             }
             Leaf::Placeholder { universe, behind } => {
-                self.placeholder(node, universe, behind, expected)
+                self.placeholder(node, universe, behind, type_or_const(expected))
             }
+            _ => self.variable(node),
         }
     }
 
-    // The term of a part of a node, which is to be of that sort if one is wanted.
-    pub fn term(
-        &mut self,
-        whole: &Node,
-        number: usize,
-        expected: Option<Sort>,
-    ) -> Result<Made, NameError> {
-        let node = self.node(whole, number)?;
+    // The term of a node, which is to be of that sort if one is wanted.
+    pub fn term(&mut self, number: usize, expected: Option<Sort>) -> Named<Made> {
+        let node = self.node(number);
         let made = match node.kind {
             NodeKind::Leaf(leaf) => self.leaf(&node, number, leaf, expected)?,
-            NodeKind::Form(Form::Error) => self.error(&node, expected)?,
+            NodeKind::Form(Form::Error) => self.error(&node, type_or_const(expected))?,
             NodeKind::Form(_) => match self.made.get(number) {
                 Some(Some(made)) => *made,
                 _ => return Err(error_at(&node, Wrong::NotRead)),
@@ -349,17 +268,14 @@ impl<'a> Namer<'a> {
     }
 
     // A name over arguments.
-    fn applied(&mut self, node: &Node, parts: &[usize]) -> Result<Made, NameError> {
-        let Some((first, args)) = parts.split_first() else {
-            return Err(error_at(node, Wrong::NotRead));
-        };
-        let name = self.node(node, *first)?;
-        let Meaning::Item(number) = self.meaning(&name, Missing::Item)? else {
+    fn applied(&mut self, node: &Node, name: usize, args: &[usize]) -> Named<Made> {
+        let name = self.node(name);
+        let Meaning::Item(item) = self.meaning(&name, Missing::Item)? else {
             return Err(error_at(&name, Wrong::NoItem));
         };
-        let sort = self.type_sort(node, &name, number, args.len())?;
-        let args = self.list(node, args, Wanted::Declared(number))?;
-        self.item_term(node, sort, number, args.parts, args.levels)
+        self.check_item(node, &name, item, args.len())?;
+        let args = self.list(args, Wanted::Declared(item))?;
+        self.item_term(node, item, args)
     }
 
     // A form over terms alone.
@@ -370,27 +286,21 @@ impl<'a> Namer<'a> {
         sort: Sort,
         wanted: Wanted,
         parts: &[usize],
-    ) -> Result<Made, NameError> {
-        let list = self.list(node, parts, wanted)?;
-        match term_over(form, &self.program.parts, list.parts) {
-            Some(term) => self.add(node, term, sort, list.levels),
-            None => Err(error_at(node, Wrong::NotRead)),
-        }
+    ) -> Named<Made> {
+        let list = self.list(parts, wanted)?;
+        let term = term_over(form, &self.program.parts, list.parts);
+        let term = term.ok_or(error_at(node, Wrong::NotRead))?;
+        self.add(node, term, sort, list.levels)
     }
 
     // An expression.
-    fn expression(&mut self, node: &Node, parts: &[usize]) -> Result<Made, NameError> {
-        let Some((first, args)) = parts.split_first() else {
-            return Err(error_at(node, Wrong::NotRead));
-        };
-        let operation = self.node(node, *first)?;
+    fn expression(&mut self, node: &Node, operation: usize, args: &[usize]) -> Named<Made> {
+        let operation = self.node(operation);
         let NodeKind::Leaf(Leaf::Number { value, .. }) = operation.kind else {
             return Err(error_at(&operation, Wrong::NotRead));
         };
-        let Ok(kind) = u32::try_from(value) else {
-            return Err(error_at(&operation, Wrong::TooLarge));
-        };
-        let args = self.list(node, args, Wanted::Any)?;
+        let kind = u32::try_from(value).map_err(|_| error_at(&operation, Wrong::TooLarge))?;
+        let args = self.list(args, Wanted::Any)?;
         self.add(node, Term::Expr(kind, args.parts), Sort::Const, args.levels)
     }
 
@@ -401,48 +311,47 @@ impl<'a> Namer<'a> {
         header: FnHeader,
         variables: usize,
         types: &[usize],
-    ) -> Result<Made, NameError> {
-        let variables = self.variables(node, variables)?;
-        let types = self.list(node, types, Wanted::Each(Sort::Type))?;
+    ) -> Named<Made> {
+        let variables = self.variables(variables)?;
+        let types = self.list(types, Wanted::Each(Sort::Type))?;
         let term = Term::FnPtr(header, variables, types.parts);
         self.add(node, term, Sort::Type, types.levels)
     }
 
     // A type under a binder.
-    fn unsafe_binder(
-        &mut self,
-        node: &Node,
-        variables: usize,
-        body: usize,
-    ) -> Result<Made, NameError> {
-        let variables = self.variables(node, variables)?;
-        let body = self.term(node, body, Some(Sort::Type))?;
+    fn unsafe_binder(&mut self, node: &Node, variables: usize, body: usize) -> Named<Made> {
+        let variables = self.variables(variables)?;
+        let body = self.term(body, Some(Sort::Type))?;
         let term = Term::UnsafeBinder(variables, body.number);
         self.add(node, term, Sort::Type, body.levels)
     }
 
     // The term of a form, if that is one.
-    pub fn form(
-        &mut self,
-        node: &Node,
-        form: Form,
-        parts: &[usize],
-    ) -> Result<Option<Made>, NameError> {
+    pub fn form(&mut self, node: &Node, form: Form, parts: &[usize]) -> Named<Option<Made>> {
         if let Some((sort, wanted)) = made_of(form) {
             return Ok(Some(self.plain(node, form, sort, wanted, parts)?));
         }
         let made = match (form, parts) {
-            (Form::Applied, _) => self.applied(node, parts),
-            (Form::Expr, _) => self.expression(node, parts),
-            (Form::Const, [constant]) => self.term(node, *constant, Some(Sort::Const)),
+            (Form::Applied, [name, args @ ..]) => self.applied(node, *name, args),
+            (Form::Expr, [operation, args @ ..]) => self.expression(node, *operation, args),
+            (Form::Const, [constant]) => self.term(*constant, Some(Sort::Const)),
             (Form::FnPtr(header), [variables, types @ ..]) => {
                 self.fn_ptr(node, header, *variables, types)
             }
             (Form::UnsafeBinder, [variables, body]) => self.unsafe_binder(node, *variables, *body),
-            (Form::Object, _) => self.object(node, parts),
+            (Form::Object, [bounds @ .., region]) => self.object(node, bounds, *region),
             (Form::Associated, [ty, of, own]) => self.associated(node, *ty, *of, *own),
             _ => return Ok(None),
         };
         Ok(Some(made?))
+    }
+}
+
+// A constant where one is wanted, and else a type.
+fn type_or_const(expected: Option<Sort>) -> Sort {
+    if expected == Some(Sort::Const) {
+        Sort::Const
+    } else {
+        Sort::Type
     }
 }

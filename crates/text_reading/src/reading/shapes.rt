@@ -116,3 +116,14 @@ pub type Shape = (Makes, &'static [Piece]);
 
 // The node over what is always one part, and so is never made.
 pub(super) const ITSELF: Makes = Makes::Lone(Form::Terms);
+
+// Pieces that many forms have.
+pub(super) const A_TERM: Piece = Piece::Part(Sort::Term);
+
+pub(super) const A_NAME: Piece = Piece::Leaf(Expected::Name);
+
+pub(super) const A_NUMBER: Piece = Piece::Leaf(Expected::Number);
+
+pub(super) const A_REGION: Piece = Piece::Leaf(Expected::Region);
+
+pub(super) const A_NAMED: Piece = Piece::Part(Sort::Named);

@@ -1,22 +1,19 @@
 //! How impls and methods are written. What one is generic over stands as an item's parameters do, without a variance.
 use crate::reading::error::Expected;
+use crate::reading::shapes::Line::To;
 use crate::reading::shapes::Makes::Node;
 use crate::reading::shapes::Piece::{Leaf, List, Mark, Part};
-use crate::reading::shapes::{Line, Shape, Sort};
-use crate::reading::signs::Sign;
+use crate::reading::shapes::{A_NAME, A_NAMED, A_TERM, Shape, Sort};
+use crate::reading::signs::Sign::{
+    Assign, Const, FatArrow, For, Greater, Impl, LeftBrace, Less, RightBrace,
+};
 use crate::reading::tree::Form;
 use term_enums::Variance;
 
 // The header of an impl.
 pub(in crate::reading) static IMPL_HEADER: [Shape; 1] = [(
     Node(Form::ImplHeader),
-    &[
-        Mark(Sign::Impl),
-        Part(Sort::Generics),
-        Part(Sort::Named),
-        Mark(Sign::For),
-        Part(Sort::Term),
-    ],
+    &[Mark(Impl), Part(Sort::Generics), A_NAMED, Mark(For), A_TERM],
 )];
 
 // What an impl gives, as a predicate under no binder of its own.
@@ -24,9 +21,9 @@ pub(in crate::reading) static GIVEN: [Shape; 1] = [(
     Node(Form::Given),
     &[
         Part(Sort::NoBinder),
-        Part(Sort::Named),
-        Mark(Sign::For),
-        Part(Sort::Term),
+        A_NAMED,
+        Mark(For),
+        A_TERM,
         Part(Sort::Gives),
     ],
 )];
@@ -35,27 +32,21 @@ pub(in crate::reading) static GIVEN: [Shape; 1] = [(
 pub(in crate::reading) static GIVES: [Shape; 2] = [
     (
         Node(Form::Gives),
-        &[
-            Mark(Sign::LeftBrace),
-            List(Sort::Assigned, Line::To(Sign::RightBrace)),
-        ],
+        &[Mark(LeftBrace), List(Sort::Assigned, To(RightBrace))],
     ),
     (Node(Form::Gives), &[]),
 ];
 
 pub(in crate::reading) static ASSIGNED: [Shape; 1] = [(
     Node(Form::Assigned),
-    &[Leaf(Expected::Name), Mark(Sign::Assign), Part(Sort::Term)],
+    &[A_NAME, Mark(Assign), A_TERM],
 )];
 
 // What an impl is generic over, or the list that is left out.
 pub(in crate::reading) static GENERICS: [Shape; 2] = [
     (
         Node(Form::Generics),
-        &[
-            Mark(Sign::Less),
-            List(Sort::GenericParam, Line::To(Sign::Greater)),
-        ],
+        &[Mark(Less), List(Sort::GenericParam, To(Greater))],
     ),
     (Node(Form::Generics), &[]),
 ];
@@ -63,7 +54,7 @@ pub(in crate::reading) static GENERICS: [Shape; 2] = [
 pub(in crate::reading) static GENERIC_PARAM: [Shape; 2] = [
     (
         Node(Form::DeclaredConst(Variance::Invariant)),
-        &[Mark(Sign::Const), Leaf(Expected::Name)],
+        &[Mark(Const), A_NAME],
     ),
     (
         Node(Form::Declared(Variance::Invariant)),
@@ -75,10 +66,10 @@ pub(in crate::reading) static GENERIC_PARAM: [Shape; 2] = [
 pub(in crate::reading) static METHOD: [Shape; 1] = [(
     Node(Form::Method),
     &[
-        Mark(Sign::Impl),
+        Mark(Impl),
         Part(Sort::Generics),
-        Part(Sort::Term),
-        Mark(Sign::FatArrow),
-        Leaf(Expected::Name),
+        A_TERM,
+        Mark(FatArrow),
+        A_NAME,
     ],
 )];

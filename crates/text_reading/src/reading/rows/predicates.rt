@@ -1,9 +1,13 @@
 //! How predicates are written.
-use crate::reading::error::Expected;
+use crate::reading::shapes::Line::To;
 use crate::reading::shapes::Makes::Node;
-use crate::reading::shapes::Piece::{Leaf, List, Mark, NextName, NextPointer, Part};
-use crate::reading::shapes::{ITSELF, Line, Shape, Sort};
-use crate::reading::signs::Sign;
+use crate::reading::shapes::Piece::{List, Mark, NextName, NextPointer, Part};
+use crate::reading::shapes::{
+    A_NAME, A_NAMED, A_NUMBER, A_REGION, A_TERM, ITSELF, Piece, Shape, Sort,
+};
+use crate::reading::signs::Sign::{
+    Bang, Colon, Const, Equal, LeftBracket, LeftParen, Limit, Pulls, RightBracket, RightParen,
+};
 use crate::reading::tree::{Claim, Form};
 use term_enums::{BoundConstness, PredicatePolarity};
 
@@ -13,85 +17,52 @@ pub(in crate::reading) static PREDICATE_BINDER: [Shape; 2] = [
     (ITSELF, &[Part(Sort::Binder)]),
 ];
 
+// The binder that a predicate begins with.
+const UNDER: Piece = Part(Sort::PredicateBinder);
+
 // A predicate.
 pub(in crate::reading) static PREDICATE: [Shape; 7] = [
     (
         Node(Form::Says),
         &[
-            Part(Sort::PredicateBinder),
-            NextName(Sign::LeftParen),
-            Leaf(Expected::Name),
-            Mark(Sign::LeftParen),
-            List(Sort::Term, Line::To(Sign::RightParen)),
+            UNDER,
+            NextName(LeftParen),
+            A_NAME,
+            Mark(LeftParen),
+            List(Sort::Term, To(RightParen)),
         ],
     ),
-    (
-        Node(Form::ComesTo),
-        &[
-            Part(Sort::PredicateBinder),
-            Part(Sort::Term),
-            Mark(Sign::Equal),
-            Part(Sort::Term),
-        ],
-    ),
+    (Node(Form::ComesTo), &[UNDER, A_TERM, Mark(Equal), A_TERM]),
     (
         Node(Form::OutlivesUnder),
-        &[
-            Part(Sort::PredicateBinder),
-            Part(Sort::Term),
-            Mark(Sign::Colon),
-            Leaf(Expected::Region),
-        ],
+        &[UNDER, A_TERM, Mark(Colon), A_REGION],
     ),
     (
         Node(Form::Claims(Claim::Trait(PredicatePolarity::Negative))),
-        &[
-            Part(Sort::PredicateBinder),
-            Part(Sort::Term),
-            Mark(Sign::Colon),
-            Mark(Sign::Bang),
-            Part(Sort::Named),
-        ],
+        &[UNDER, A_TERM, Mark(Colon), Mark(Bang), A_NAMED],
     ),
     (
         Node(Form::Claims(Claim::HostEffect(BoundConstness::Const))),
-        &[
-            Part(Sort::PredicateBinder),
-            Part(Sort::Term),
-            Mark(Sign::Colon),
-            Mark(Sign::Const),
-            Part(Sort::Named),
-        ],
+        &[UNDER, A_TERM, Mark(Colon), Mark(Const), A_NAMED],
     ),
     (
         Node(Form::Claims(Claim::HostEffect(BoundConstness::Maybe))),
         &[
-            Part(Sort::PredicateBinder),
-            Part(Sort::Term),
-            Mark(Sign::Colon),
-            Mark(Sign::LeftBracket),
-            Mark(Sign::Const),
-            Mark(Sign::RightBracket),
-            Part(Sort::Named),
+            UNDER,
+            A_TERM,
+            Mark(Colon),
+            Mark(LeftBracket),
+            Mark(Const),
+            Mark(RightBracket),
+            A_NAMED,
         ],
     ),
     (
         Node(Form::Claims(Claim::Trait(PredicatePolarity::Positive))),
-        &[
-            Part(Sort::PredicateBinder),
-            Part(Sort::Term),
-            Mark(Sign::Colon),
-            Part(Sort::Named),
-        ],
+        &[UNDER, A_TERM, Mark(Colon), A_NAMED],
     ),
 ];
 
-pub(in crate::reading) static LIMIT: [Shape; 1] = [(
-    Node(Form::Limit),
-    &[Mark(Sign::Limit), Leaf(Expected::Number)],
-)];
+pub(in crate::reading) static LIMIT: [Shape; 1] = [(Node(Form::Limit), &[Mark(Limit), A_NUMBER])];
 
-pub(in crate::reading) static PULLS: [Shape; 1] = [(
-    Node(Form::Pulls),
-    &[Mark(Sign::Pulls), Leaf(Expected::Number)],
-)];
+pub(in crate::reading) static PULLS: [Shape; 1] = [(Node(Form::Pulls), &[Mark(Pulls), A_NUMBER])];

@@ -1,29 +1,32 @@
 //! How questions are written.
 use crate::reading::error::Expected;
+use crate::reading::shapes::Line::{By, To};
 use crate::reading::shapes::Makes::Node;
 use crate::reading::shapes::Piece::{
     Further, Leaf, List, Mark, Maybe, NextName, NextTwo, OneOf, Part, Unless,
 };
-use crate::reading::shapes::{ITSELF, Line, Shape, Sort};
-use crate::reading::signs::Sign;
+use crate::reading::shapes::{A_NAME, A_NUMBER, A_TERM, ITSELF, Shape, Sort};
+use crate::reading::signs::Sign::{
+    After, Args, Assign, Assumptions, At, Binding, Colon, Comma, Components, Count, Elaborate,
+    Equal, Escapes, Fold, Goals, Infer, Infers, Key, LeftBrace, LeftBracket, Limit, May, Methods,
+    Of, One, Overlap, Prove, Regions, Repeat, RightBrace, RightBracket, Rigid, SelfType, Semicolon,
+    Sized, Skip, Solve, Stop, StructurallyEqual, Subtype, Supertraits, Supertype, Then, Unify,
+    Visit, Walk, Where, With,
+};
 use crate::reading::tree::{Counted, Form, KeyParams, Relation, SideParams};
 use term_enums::Variance;
 
 // What else may stand where one of two signs does.
-const GOALS_OR_REGIONS: Expected = Expected::Either(Sign::Goals, Sign::Regions);
+const GOALS_OR_REGIONS: Expected = Expected::Either(Goals, Regions);
 
-const RIGID_OR_INFER: Expected = Expected::Either(Sign::Rigid, Sign::Infer);
+const RIGID_OR_INFER: Expected = Expected::Either(Rigid, Infer);
 
 // A question.
 pub(in crate::reading) static QUESTION: [Shape; 3] = [
-    (Node(Form::Then), &[Mark(Sign::Then), Part(Sort::Asked)]),
+    (Node(Form::Then), &[Mark(Then), Part(Sort::Asked)]),
     (
         Node(Form::Repeat),
-        &[
-            Mark(Sign::Repeat),
-            Leaf(Expected::Number),
-            Part(Sort::Asked),
-        ],
+        &[Mark(Repeat), A_NUMBER, Part(Sort::Asked)],
     ),
     (ITSELF, &[Part(Sort::Asked)]),
 ];
@@ -32,179 +35,157 @@ pub(in crate::reading) static QUESTION: [Shape; 3] = [
 pub(in crate::reading) static ASKED: [Shape; 33] = [
     (
         Node(Form::Visit),
-        &[
-            Mark(Sign::Visit),
-            Part(Sort::Term),
-            Part(Sort::Skip),
-            Part(Sort::Stop),
-        ],
+        &[Mark(Visit), A_TERM, Part(Sort::Skip), Part(Sort::Stop)],
     ),
     (
         Node(Form::Walk),
         &[
-            Mark(Sign::Walk),
-            Part(Sort::Term),
-            Further(Sign::Skip),
-            Mark(Sign::After),
-            List(Sort::Number, Line::By(Sign::Comma)),
+            Mark(Walk),
+            A_TERM,
+            Further(Skip),
+            Mark(After),
+            List(Sort::Number, By(Comma)),
         ],
     ),
-    (
-        Node(Form::Components),
-        &[Mark(Sign::Components), Part(Sort::Term)],
-    ),
+    (Node(Form::Components), &[Mark(Components), A_TERM]),
     (
         Node(Form::Assumptions),
-        &[
-            Mark(Sign::Assumptions),
-            List(Sort::Outlives, Line::By(Sign::Comma)),
-        ],
+        &[Mark(Assumptions), List(Sort::Outlives, By(Comma))],
     ),
     (
         Node(Form::Fold),
-        &[
-            Mark(Sign::Fold),
-            Part(Sort::Term),
-            Mark(Sign::With),
-            List(Sort::Put, Line::By(Sign::Comma)),
-        ],
+        &[Mark(Fold), A_TERM, Mark(With), List(Sort::Put, By(Comma))],
     ),
-    (
-        Node(Form::Escapes),
-        &[Mark(Sign::Escapes), Part(Sort::Term)],
-    ),
-    (Node(Form::Infers), &[Mark(Sign::Infers), Part(Sort::Term)]),
-    (Node(Form::Rigid), &[Mark(Sign::Rigid), Part(Sort::Term)]),
+    (Node(Form::Escapes), &[Mark(Escapes), A_TERM]),
+    (Node(Form::Infers), &[Mark(Infers), A_TERM]),
+    (Node(Form::Rigid), &[Mark(Rigid), A_TERM]),
     (
         Node(Form::MayUnify(SideParams::InferInfer)),
         &[
-            Mark(Sign::May),
-            Mark(Sign::Unify),
-            Mark(Sign::LeftBracket),
-            OneOf(Sign::Infer, RIGID_OR_INFER),
-            Mark(Sign::Comma),
-            Mark(Sign::Infer),
-            Mark(Sign::RightBracket),
-            Part(Sort::Term),
-            Mark(Sign::Comma),
-            Part(Sort::Term),
-            Further(Sign::At),
-            Leaf(Expected::Number),
+            Mark(May),
+            Mark(Unify),
+            Mark(LeftBracket),
+            OneOf(Infer, RIGID_OR_INFER),
+            Mark(Comma),
+            Mark(Infer),
+            Mark(RightBracket),
+            A_TERM,
+            Mark(Comma),
+            A_TERM,
+            Further(At),
+            A_NUMBER,
         ],
     ),
     (
         Node(Form::MayUnify(SideParams::RigidInfer)),
         &[
-            Mark(Sign::May),
-            Mark(Sign::Unify),
-            Mark(Sign::LeftBracket),
-            OneOf(Sign::Rigid, RIGID_OR_INFER),
-            Mark(Sign::Comma),
-            OneOf(Sign::Infer, RIGID_OR_INFER),
-            Mark(Sign::RightBracket),
-            Part(Sort::Term),
-            Mark(Sign::Comma),
-            Part(Sort::Term),
-            Further(Sign::At),
-            Leaf(Expected::Number),
+            Mark(May),
+            Mark(Unify),
+            Mark(LeftBracket),
+            OneOf(Rigid, RIGID_OR_INFER),
+            Mark(Comma),
+            OneOf(Infer, RIGID_OR_INFER),
+            Mark(RightBracket),
+            A_TERM,
+            Mark(Comma),
+            A_TERM,
+            Further(At),
+            A_NUMBER,
         ],
     ),
     (
         Node(Form::MayUnify(SideParams::RigidRigid)),
         &[
-            Mark(Sign::May),
-            Mark(Sign::Unify),
-            Mark(Sign::LeftBracket),
-            OneOf(Sign::Rigid, RIGID_OR_INFER),
-            Mark(Sign::Comma),
-            OneOf(Sign::Rigid, RIGID_OR_INFER),
-            Mark(Sign::RightBracket),
-            Part(Sort::Term),
-            Mark(Sign::Comma),
-            Part(Sort::Term),
-            Further(Sign::At),
-            Leaf(Expected::Number),
+            Mark(May),
+            Mark(Unify),
+            Mark(LeftBracket),
+            OneOf(Rigid, RIGID_OR_INFER),
+            Mark(Comma),
+            OneOf(Rigid, RIGID_OR_INFER),
+            Mark(RightBracket),
+            A_TERM,
+            Mark(Comma),
+            A_TERM,
+            Further(At),
+            A_NUMBER,
         ],
     ),
     (
         Node(Form::ArgsMayUnify(SideParams::InferInfer)),
         &[
-            Mark(Sign::Args),
-            Mark(Sign::May),
-            Mark(Sign::Unify),
-            Mark(Sign::LeftBracket),
-            OneOf(Sign::Infer, RIGID_OR_INFER),
-            Mark(Sign::Comma),
-            Mark(Sign::Infer),
-            Mark(Sign::RightBracket),
+            Mark(Args),
+            Mark(May),
+            Mark(Unify),
+            Mark(LeftBracket),
+            OneOf(Infer, RIGID_OR_INFER),
+            Mark(Comma),
+            Mark(Infer),
+            Mark(RightBracket),
             Part(Sort::Arguments),
-            Mark(Sign::Comma),
+            Mark(Comma),
             Part(Sort::Arguments),
         ],
     ),
     (
         Node(Form::ArgsMayUnify(SideParams::RigidInfer)),
         &[
-            Mark(Sign::Args),
-            Mark(Sign::May),
-            Mark(Sign::Unify),
-            Mark(Sign::LeftBracket),
-            OneOf(Sign::Rigid, RIGID_OR_INFER),
-            Mark(Sign::Comma),
-            OneOf(Sign::Infer, RIGID_OR_INFER),
-            Mark(Sign::RightBracket),
+            Mark(Args),
+            Mark(May),
+            Mark(Unify),
+            Mark(LeftBracket),
+            OneOf(Rigid, RIGID_OR_INFER),
+            Mark(Comma),
+            OneOf(Infer, RIGID_OR_INFER),
+            Mark(RightBracket),
             Part(Sort::Arguments),
-            Mark(Sign::Comma),
+            Mark(Comma),
             Part(Sort::Arguments),
         ],
     ),
     (
         Node(Form::ArgsMayUnify(SideParams::RigidRigid)),
         &[
-            Mark(Sign::Args),
-            Mark(Sign::May),
-            Mark(Sign::Unify),
-            Mark(Sign::LeftBracket),
-            OneOf(Sign::Rigid, RIGID_OR_INFER),
-            Mark(Sign::Comma),
-            OneOf(Sign::Rigid, RIGID_OR_INFER),
-            Mark(Sign::RightBracket),
+            Mark(Args),
+            Mark(May),
+            Mark(Unify),
+            Mark(LeftBracket),
+            OneOf(Rigid, RIGID_OR_INFER),
+            Mark(Comma),
+            OneOf(Rigid, RIGID_OR_INFER),
+            Mark(RightBracket),
             Part(Sort::Arguments),
-            Mark(Sign::Comma),
+            Mark(Comma),
             Part(Sort::Arguments),
         ],
     ),
     (
         Node(Form::ArgsEqual),
         &[
-            Mark(Sign::Args),
+            Mark(Args),
             Part(Sort::Arguments),
-            Mark(Sign::Equal),
+            Mark(Equal),
             Part(Sort::Arguments),
         ],
     ),
     (
         Node(Form::Key(KeyParams::Rigid)),
-        &[Mark(Sign::Key), Mark(Sign::Rigid), Part(Sort::Term)],
+        &[Mark(Key), Mark(Rigid), A_TERM],
     ),
-    (
-        Node(Form::Key(KeyParams::Infer)),
-        &[Mark(Sign::Key), Part(Sort::Term)],
-    ),
+    (Node(Form::Key(KeyParams::Infer)), &[Mark(Key), A_TERM]),
     (
         Node(Form::Elaborate {
             only_self: true,
             sized: true,
         }),
         &[
-            Mark(Sign::Elaborate),
-            NextTwo(Sign::LeftBracket, Sign::SelfType),
-            Mark(Sign::LeftBracket),
-            Mark(Sign::SelfType),
-            Mark(Sign::Comma),
-            Mark(Sign::Sized),
-            Mark(Sign::RightBracket),
-            Unless(Sign::Limit, Sort::Predicate),
+            Mark(Elaborate),
+            NextTwo(LeftBracket, SelfType),
+            Mark(LeftBracket),
+            Mark(SelfType),
+            Mark(Comma),
+            Mark(Sized),
+            Mark(RightBracket),
+            Unless(Limit, Sort::Predicate),
             Maybe(Sort::Limit),
             Maybe(Sort::Pulls),
         ],
@@ -215,12 +196,12 @@ pub(in crate::reading) static ASKED: [Shape; 33] = [
             sized: false,
         }),
         &[
-            Mark(Sign::Elaborate),
-            NextTwo(Sign::LeftBracket, Sign::SelfType),
-            Mark(Sign::LeftBracket),
-            Mark(Sign::SelfType),
-            Mark(Sign::RightBracket),
-            Unless(Sign::Limit, Sort::Predicate),
+            Mark(Elaborate),
+            NextTwo(LeftBracket, SelfType),
+            Mark(LeftBracket),
+            Mark(SelfType),
+            Mark(RightBracket),
+            Unless(Limit, Sort::Predicate),
             Maybe(Sort::Limit),
             Maybe(Sort::Pulls),
         ],
@@ -231,12 +212,12 @@ pub(in crate::reading) static ASKED: [Shape; 33] = [
             sized: true,
         }),
         &[
-            Mark(Sign::Elaborate),
-            NextTwo(Sign::LeftBracket, Sign::Sized),
-            Mark(Sign::LeftBracket),
-            Mark(Sign::Sized),
-            Mark(Sign::RightBracket),
-            Unless(Sign::Limit, Sort::Predicate),
+            Mark(Elaborate),
+            NextTwo(LeftBracket, Sized),
+            Mark(LeftBracket),
+            Mark(Sized),
+            Mark(RightBracket),
+            Unless(Limit, Sort::Predicate),
             Maybe(Sort::Limit),
             Maybe(Sort::Pulls),
         ],
@@ -247,56 +228,48 @@ pub(in crate::reading) static ASKED: [Shape; 33] = [
             sized: false,
         }),
         &[
-            Mark(Sign::Elaborate),
-            Unless(Sign::Limit, Sort::Predicate),
+            Mark(Elaborate),
+            Unless(Limit, Sort::Predicate),
             Maybe(Sort::Limit),
             Maybe(Sort::Pulls),
         ],
     ),
     (
         Node(Form::SupertraitIds),
-        &[
-            Mark(Sign::Supertraits),
-            NextName(Sign::Semicolon),
-            Leaf(Expected::Name),
-        ],
+        &[Mark(Supertraits), NextName(Semicolon), A_NAME],
     ),
     (
         Node(Form::Supertraits),
-        &[
-            Mark(Sign::Supertraits),
-            Part(Sort::Predicate),
-            Maybe(Sort::Limit),
-        ],
+        &[Mark(Supertraits), Part(Sort::Predicate), Maybe(Sort::Limit)],
     ),
     (
         Node(Form::Count(Counted::Goals)),
         &[
-            Mark(Sign::Count),
-            OneOf(Sign::Goals, GOALS_OR_REGIONS),
+            Mark(Count),
+            OneOf(Goals, GOALS_OR_REGIONS),
             Part(Sort::Pair),
         ],
     ),
     (
         Node(Form::Count(Counted::Regions)),
         &[
-            Mark(Sign::Count),
-            OneOf(Sign::Regions, GOALS_OR_REGIONS),
+            Mark(Count),
+            OneOf(Regions, GOALS_OR_REGIONS),
             Part(Sort::Pair),
         ],
     ),
     (
         Node(Form::One),
         &[
-            Mark(Sign::One),
+            Mark(One),
             Leaf(Expected::AnyVariable),
-            Mark(Sign::Comma),
+            Mark(Comma),
             Leaf(Expected::AnyVariable),
         ],
     ),
     (
         Node(Form::Binding),
-        &[Mark(Sign::Binding), Leaf(Expected::AnyVariable)],
+        &[Mark(Binding), Leaf(Expected::AnyVariable)],
     ),
     (
         Node(Form::ImplsOverlap),
@@ -312,38 +285,29 @@ pub(in crate::reading) static ASKED: [Shape; 33] = [
     (
         Node(Form::Overlap),
         &[
-            Mark(Sign::Overlap),
+            Mark(Overlap),
             Part(Sort::ImplHeader),
-            Mark(Sign::Comma),
+            Mark(Comma),
             Part(Sort::ImplHeader),
         ],
     ),
     (
         Node(Form::Methods),
         &[
-            Mark(Sign::Methods),
-            Mark(Sign::LeftBrace),
-            List(Sort::Method, Line::To(Sign::RightBrace)),
-            Mark(Sign::Of),
-            Part(Sort::Term),
+            Mark(Methods),
+            Mark(LeftBrace),
+            List(Sort::Method, To(RightBrace)),
+            Mark(Of),
+            A_TERM,
         ],
     ),
     (
         Node(Form::Solve),
-        &[
-            Mark(Sign::Solve),
-            Further(Sign::Where),
-            List(Sort::Outlives, Line::By(Sign::Comma)),
-        ],
+        &[Mark(Solve), Further(Where), List(Sort::Outlives, By(Comma))],
     ),
     (
         Node(Form::Prove),
-        &[
-            Mark(Sign::Prove),
-            Part(Sort::Predicate),
-            Further(Sign::At),
-            Leaf(Expected::Number),
-        ],
+        &[Mark(Prove), Part(Sort::Predicate), Further(At), A_NUMBER],
     ),
     (ITSELF, &[Part(Sort::Pair)]),
 ];
@@ -352,69 +316,50 @@ pub(in crate::reading) static ASKED: [Shape; 33] = [
 pub(in crate::reading) static PAIR: [Shape; 4] = [
     (
         Node(Form::Question(Relation::At(Variance::Covariant))),
-        &[
-            Part(Sort::Term),
-            OneOf(Sign::Subtype, Expected::Relation),
-            Part(Sort::Term),
-        ],
+        &[A_TERM, OneOf(Subtype, Expected::Relation), A_TERM],
     ),
     (
         Node(Form::Question(Relation::At(Variance::Contravariant))),
-        &[
-            Part(Sort::Term),
-            OneOf(Sign::Supertype, Expected::Relation),
-            Part(Sort::Term),
-        ],
+        &[A_TERM, OneOf(Supertype, Expected::Relation), A_TERM],
     ),
     (
         Node(Form::Question(Relation::At(Variance::Invariant))),
-        &[
-            Part(Sort::Term),
-            OneOf(Sign::Equal, Expected::Relation),
-            Part(Sort::Term),
-        ],
+        &[A_TERM, OneOf(Equal, Expected::Relation), A_TERM],
     ),
     (
         Node(Form::Question(Relation::Structurally)),
-        &[
-            Part(Sort::Term),
-            OneOf(Sign::StructurallyEqual, Expected::Relation),
-            Part(Sort::Term),
-        ],
+        &[A_TERM, OneOf(StructurallyEqual, Expected::Relation), A_TERM],
     ),
 ];
 
 // The terms at which a visitor skips, and those at which it stops.
 pub(in crate::reading) static SKIP: [Shape; 1] = [(
     Node(Form::Terms),
-    &[Further(Sign::Skip), List(Sort::Term, Line::By(Sign::Comma))],
+    &[Further(Skip), List(Sort::Term, By(Comma))],
 )];
 
 pub(in crate::reading) static STOP: [Shape; 1] = [(
     Node(Form::Terms),
-    &[Further(Sign::Stop), List(Sort::Term, Line::By(Sign::Comma))],
+    &[Further(Stop), List(Sort::Term, By(Comma))],
 )];
 
 // A number.
-pub(in crate::reading) static NUMBER: [Shape; 1] = [(ITSELF, &[Leaf(Expected::Number)])];
+pub(in crate::reading) static NUMBER: [Shape; 1] = [(ITSELF, &[A_NUMBER])];
 
 // A term, and the region that it outlives.
 pub(in crate::reading) static OUTLIVES: [Shape; 1] = [(
     Node(Form::Outlives),
-    &[Part(Sort::Term), Mark(Sign::Colon), Part(Sort::Term)],
+    &[A_TERM, Mark(Colon), A_TERM],
 )];
 
 // A term, and the one that is put for it.
 pub(in crate::reading) static PUT: [Shape; 1] = [(
     Node(Form::Put),
-    &[Part(Sort::Term), Mark(Sign::Assign), Part(Sort::Term)],
+    &[A_TERM, Mark(Assign), A_TERM],
 )];
 
 // A list of arguments.
 pub(in crate::reading) static ARGUMENTS: [Shape; 1] = [(
     Node(Form::Terms),
-    &[
-        Mark(Sign::LeftBracket),
-        List(Sort::Term, Line::To(Sign::RightBracket)),
-    ],
+    &[Mark(LeftBracket), List(Sort::Term, To(RightBracket))],
 )];

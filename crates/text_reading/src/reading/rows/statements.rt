@@ -1,312 +1,234 @@
 //! How statements are written.
 use crate::reading::error::Expected;
+use crate::reading::shapes::Line::{By, To};
 use crate::reading::shapes::Makes::Node;
 use crate::reading::shapes::Piece::{Further, Leaf, List, Mark, NextTwo, OneOf, Part, Unless};
-use crate::reading::shapes::{ITSELF, Line, Shape, Sort};
-use crate::reading::signs::Sign;
+use crate::reading::shapes::{A_NAME, A_NUMBER, A_TERM, ITSELF, Piece, Shape, Sort};
+use crate::reading::signs::Sign::{
+    AbiC, AbiSystem, Assign, Assume, Auto, Budget, Closure, Colon, Comma, Const, Coroutine, Extern,
+    Fn, Greater, Impl, Implied, In, Inherent, LeftParen, Less, Let, Minus, Mode, Opaque, Param,
+    PathSep, Plus, Semicolon, Sized, Solver, Star, Struct, Super, Trait, Type, Variables, Where,
+    Witness,
+};
 use crate::reading::tree::{Form, ItemSort, Setting, StatedKind};
 use term_enums::Variance;
 
+// The parameters of an item, behind their `<`.
+const PARAMETERS: Piece = List(Sort::Declared, To(Greater));
+
 // What `inherent` is to be followed by.
-const TYPE_OR_CONST: Expected = Expected::Either(Sign::Type, Sign::Const);
+const TYPE_OR_CONST: Expected = Expected::Either(Type, Const);
 
 // A statement, without the `;` behind it. A function pointer that begins one is asked about.
 pub(in crate::reading) static STATEMENT: [Shape; 32] = [
-    (
-        ITSELF,
-        &[NextTwo(Sign::Fn, Sign::LeftParen), Part(Sort::Question)],
-    ),
-    (
-        ITSELF,
-        &[NextTwo(Sign::Extern, Sign::AbiC), Part(Sort::Question)],
-    ),
-    (
-        ITSELF,
-        &[NextTwo(Sign::Extern, Sign::AbiSystem), Part(Sort::Question)],
-    ),
-    (
-        Node(Form::IsSized),
-        &[Mark(Sign::Sized), Leaf(Expected::Name)],
-    ),
+    (ITSELF, &[NextTwo(Fn, LeftParen), Part(Sort::Question)]),
+    (ITSELF, &[NextTwo(Extern, AbiC), Part(Sort::Question)]),
+    (ITSELF, &[NextTwo(Extern, AbiSystem), Part(Sort::Question)]),
+    (Node(Form::IsSized), &[Mark(Sized), A_NAME]),
     (
         Node(Form::States(StatedKind::Super)),
         &[
-            Mark(Sign::Super),
+            Mark(Super),
             Part(Sort::Stating),
-            Mark(Sign::Colon),
-            List(Sort::Predicate, Line::By(Sign::Comma)),
+            Mark(Colon),
+            List(Sort::Predicate, By(Comma)),
         ],
     ),
     (
         Node(Form::States(StatedKind::Implied)),
         &[
-            Mark(Sign::Implied),
+            Mark(Implied),
             Part(Sort::Stating),
-            Mark(Sign::Colon),
-            List(Sort::Predicate, Line::By(Sign::Comma)),
+            Mark(Colon),
+            List(Sort::Predicate, By(Comma)),
         ],
     ),
     (
         Node(Form::States(StatedKind::Const)),
         &[
-            Mark(Sign::Const),
-            Mark(Sign::Super),
+            Mark(Const),
+            Mark(Super),
             Part(Sort::Stating),
-            Mark(Sign::Colon),
-            List(Sort::Predicate, Line::By(Sign::Comma)),
+            Mark(Colon),
+            List(Sort::Predicate, By(Comma)),
         ],
     ),
     (
         Node(Form::Item(ItemSort::AssocConst)),
         &[
-            Mark(Sign::Const),
-            Leaf(Expected::Name),
-            Mark(Sign::PathSep),
-            Leaf(Expected::Name),
-            Further(Sign::Less),
-            List(Sort::Declared, Line::To(Sign::Greater)),
+            Mark(Const),
+            A_NAME,
+            Mark(PathSep),
+            A_NAME,
+            Further(Less),
+            PARAMETERS,
         ],
     ),
     (
         Node(Form::Item(ItemSort::FreeConst)),
-        &[
-            Mark(Sign::Const),
-            Leaf(Expected::Name),
-            Further(Sign::Less),
-            List(Sort::Declared, Line::To(Sign::Greater)),
-        ],
+        &[Mark(Const), A_NAME, Further(Less), PARAMETERS],
     ),
     (
         Node(Form::Item(ItemSort::Struct)),
-        &[
-            Mark(Sign::Struct),
-            Leaf(Expected::Name),
-            Further(Sign::Less),
-            List(Sort::Declared, Line::To(Sign::Greater)),
-        ],
+        &[Mark(Struct), A_NAME, Further(Less), PARAMETERS],
     ),
     (
         Node(Form::Item(ItemSort::Fn)),
-        &[
-            Mark(Sign::Fn),
-            Leaf(Expected::Name),
-            Further(Sign::Less),
-            List(Sort::Declared, Line::To(Sign::Greater)),
-        ],
+        &[Mark(Fn), A_NAME, Further(Less), PARAMETERS],
     ),
     (
         Node(Form::Item(ItemSort::Closure)),
-        &[
-            Mark(Sign::Closure),
-            Leaf(Expected::Name),
-            Further(Sign::Less),
-            List(Sort::Declared, Line::To(Sign::Greater)),
-        ],
+        &[Mark(Closure), A_NAME, Further(Less), PARAMETERS],
     ),
     (
         Node(Form::Item(ItemSort::CoroutineClosure)),
         &[
-            Mark(Sign::Coroutine),
-            Mark(Sign::Closure),
-            Leaf(Expected::Name),
-            Further(Sign::Less),
-            List(Sort::Declared, Line::To(Sign::Greater)),
+            Mark(Coroutine),
+            Mark(Closure),
+            A_NAME,
+            Further(Less),
+            PARAMETERS,
         ],
     ),
     (
         Node(Form::Item(ItemSort::CoroutineWitness)),
         &[
-            Mark(Sign::Coroutine),
-            Mark(Sign::Witness),
-            Leaf(Expected::Name),
-            Further(Sign::Less),
-            List(Sort::Declared, Line::To(Sign::Greater)),
+            Mark(Coroutine),
+            Mark(Witness),
+            A_NAME,
+            Further(Less),
+            PARAMETERS,
         ],
     ),
     (
         Node(Form::Item(ItemSort::Coroutine)),
-        &[
-            Mark(Sign::Coroutine),
-            Leaf(Expected::Name),
-            Further(Sign::Less),
-            List(Sort::Declared, Line::To(Sign::Greater)),
-        ],
+        &[Mark(Coroutine), A_NAME, Further(Less), PARAMETERS],
     ),
     (
         Node(Form::Item(ItemSort::Foreign)),
-        &[
-            Mark(Sign::Extern),
-            Mark(Sign::Type),
-            Leaf(Expected::Name),
-            Further(Sign::Less),
-            List(Sort::Declared, Line::To(Sign::Greater)),
-        ],
+        &[Mark(Extern), Mark(Type), A_NAME, Further(Less), PARAMETERS],
     ),
     (
         Node(Form::Item(ItemSort::Trait)),
-        &[
-            Mark(Sign::Trait),
-            Leaf(Expected::Name),
-            Further(Sign::Less),
-            List(Sort::Declared, Line::To(Sign::Greater)),
-        ],
+        &[Mark(Trait), A_NAME, Further(Less), PARAMETERS],
     ),
     (
         Node(Form::Item(ItemSort::AutoTrait)),
-        &[
-            Mark(Sign::Auto),
-            Mark(Sign::Trait),
-            Leaf(Expected::Name),
-            Further(Sign::Less),
-            List(Sort::Declared, Line::To(Sign::Greater)),
-        ],
+        &[Mark(Auto), Mark(Trait), A_NAME, Further(Less), PARAMETERS],
     ),
     (
         Node(Form::Item(ItemSort::AssocTy)),
         &[
-            Mark(Sign::Type),
-            Leaf(Expected::Name),
-            Mark(Sign::PathSep),
-            Leaf(Expected::Name),
-            Further(Sign::Less),
-            List(Sort::Declared, Line::To(Sign::Greater)),
+            Mark(Type),
+            A_NAME,
+            Mark(PathSep),
+            A_NAME,
+            Further(Less),
+            PARAMETERS,
         ],
     ),
     (
         Node(Form::Item(ItemSort::FreeTy)),
-        &[
-            Mark(Sign::Type),
-            Leaf(Expected::Name),
-            Further(Sign::Less),
-            List(Sort::Declared, Line::To(Sign::Greater)),
-        ],
+        &[Mark(Type), A_NAME, Further(Less), PARAMETERS],
     ),
     (
         Node(Form::Item(ItemSort::Opaque)),
-        &[
-            Mark(Sign::Opaque),
-            Leaf(Expected::Name),
-            Further(Sign::Less),
-            List(Sort::Declared, Line::To(Sign::Greater)),
-        ],
+        &[Mark(Opaque), A_NAME, Further(Less), PARAMETERS],
     ),
     (
         Node(Form::Item(ItemSort::InherentTy)),
         &[
-            Mark(Sign::Inherent),
-            OneOf(Sign::Type, TYPE_OR_CONST),
-            Leaf(Expected::Name),
-            Further(Sign::Less),
-            List(Sort::Declared, Line::To(Sign::Greater)),
+            Mark(Inherent),
+            OneOf(Type, TYPE_OR_CONST),
+            A_NAME,
+            Further(Less),
+            PARAMETERS,
         ],
     ),
     (
         Node(Form::Item(ItemSort::InherentConst)),
         &[
-            Mark(Sign::Inherent),
-            OneOf(Sign::Const, TYPE_OR_CONST),
-            Leaf(Expected::Name),
-            Further(Sign::Less),
-            List(Sort::Declared, Line::To(Sign::Greater)),
+            Mark(Inherent),
+            OneOf(Const, TYPE_OR_CONST),
+            A_NAME,
+            Further(Less),
+            PARAMETERS,
         ],
     ),
     (
         Node(Form::Parameters),
-        &[
-            Mark(Sign::Param),
-            List(Sort::Parameter, Line::By(Sign::Comma)),
-        ],
+        &[Mark(Param), List(Sort::Parameter, By(Comma))],
     ),
     (
         Node(Form::Assumes),
-        &[Mark(Sign::Assume), Unless(Sign::Semicolon, Sort::Predicate)],
+        &[Mark(Assume), Unless(Semicolon, Sort::Predicate)],
     ),
     (
         Node(Form::Impl),
         &[
-            Mark(Sign::Impl),
+            Mark(Impl),
             Part(Sort::Generics),
             Part(Sort::Given),
-            Further(Sign::Where),
-            List(Sort::Predicate, Line::By(Sign::Comma)),
+            Further(Where),
+            List(Sort::Predicate, By(Comma)),
         ],
     ),
-    (
-        Node(Form::Sets(Setting::Budget)),
-        &[Mark(Sign::Budget), Leaf(Expected::Number)],
-    ),
-    (
-        Node(Form::Sets(Setting::Solver)),
-        &[Mark(Sign::Solver), Leaf(Expected::Name)],
-    ),
-    (
-        Node(Form::Sets(Setting::Mode)),
-        &[Mark(Sign::Mode), Leaf(Expected::Name)],
-    ),
+    (Node(Form::Sets(Setting::Budget)), &[Mark(Budget), A_NUMBER]),
+    (Node(Form::Sets(Setting::Solver)), &[Mark(Solver), A_NAME]),
+    (Node(Form::Sets(Setting::Mode)), &[Mark(Mode), A_NAME]),
     (
         Node(Form::Variables),
         &[
-            Mark(Sign::Variables),
-            List(Sort::Made, Line::By(Sign::Comma)),
-            Further(Sign::In),
-            Leaf(Expected::Number),
+            Mark(Variables),
+            List(Sort::Made, By(Comma)),
+            Further(In),
+            A_NUMBER,
         ],
     ),
-    (
-        Node(Form::Let),
-        &[
-            Mark(Sign::Let),
-            Leaf(Expected::Name),
-            Mark(Sign::Assign),
-            Part(Sort::Term),
-        ],
-    ),
+    (Node(Form::Let), &[Mark(Let), A_NAME, Mark(Assign), A_TERM]),
     (ITSELF, &[Part(Sort::Question)]),
 ];
 
 // The trait whose predicates follow.
-pub(in crate::reading) static STATING: [Shape; 1] = [(
-    Node(Form::Stating),
-    &[Leaf(Expected::Name)],
-)];
+pub(in crate::reading) static STATING: [Shape; 1] = [(Node(Form::Stating), &[A_NAME])];
 
 // What an item declares, and how the item varies with it.
 pub(in crate::reading) static DECLARED: [Shape; 10] = [
     (
         Node(Form::DeclaredConst(Variance::Covariant)),
-        &[Mark(Sign::Plus), Mark(Sign::Const), Leaf(Expected::Name)],
+        &[Mark(Plus), Mark(Const), A_NAME],
     ),
     (
         Node(Form::Declared(Variance::Covariant)),
-        &[Mark(Sign::Plus), Leaf(Expected::Parameter)],
+        &[Mark(Plus), Leaf(Expected::Parameter)],
     ),
     (
         Node(Form::DeclaredConst(Variance::Contravariant)),
-        &[Mark(Sign::Minus), Mark(Sign::Const), Leaf(Expected::Name)],
+        &[Mark(Minus), Mark(Const), A_NAME],
     ),
     (
         Node(Form::Declared(Variance::Contravariant)),
-        &[Mark(Sign::Minus), Leaf(Expected::Parameter)],
+        &[Mark(Minus), Leaf(Expected::Parameter)],
     ),
     (
         Node(Form::DeclaredConst(Variance::Bivariant)),
-        &[Mark(Sign::Star), Mark(Sign::Const), Leaf(Expected::Name)],
+        &[Mark(Star), Mark(Const), A_NAME],
     ),
     (
         Node(Form::Declared(Variance::Bivariant)),
-        &[Mark(Sign::Star), Leaf(Expected::Parameter)],
+        &[Mark(Star), Leaf(Expected::Parameter)],
     ),
     (
         Node(Form::DeclaredConst(Variance::Invariant)),
-        &[Mark(Sign::Assign), Mark(Sign::Const), Leaf(Expected::Name)],
+        &[Mark(Assign), Mark(Const), A_NAME],
     ),
     (
         Node(Form::Declared(Variance::Invariant)),
-        &[Mark(Sign::Assign), Leaf(Expected::Parameter)],
+        &[Mark(Assign), Leaf(Expected::Parameter)],
     ),
     (
         Node(Form::DeclaredConst(Variance::Invariant)),
-        &[Mark(Sign::Const), Leaf(Expected::Name)],
+        &[Mark(Const), A_NAME],
     ),
     (
         Node(Form::Declared(Variance::Invariant)),
@@ -318,20 +240,11 @@ pub(in crate::reading) static DECLARED: [Shape; 10] = [
 pub(in crate::reading) static PARAMETER: [Shape; 2] = [
     (
         Node(Form::ConstParameter),
-        &[
-            Mark(Sign::Const),
-            Leaf(Expected::Name),
-            Further(Sign::Assign),
-            Leaf(Expected::Number),
-        ],
+        &[Mark(Const), A_NAME, Further(Assign), A_NUMBER],
     ),
     (
         Node(Form::Parameter),
-        &[
-            Leaf(Expected::Parameter),
-            Further(Sign::Assign),
-            Leaf(Expected::Number),
-        ],
+        &[Leaf(Expected::Parameter), Further(Assign), A_NUMBER],
     ),
 ];
 

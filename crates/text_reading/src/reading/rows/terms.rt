@@ -1,16 +1,32 @@
 //! How terms are written. Rows that begin alike stand together.
 use crate::reading::error::Expected;
+use crate::reading::shapes::Line::{By, To};
 use crate::reading::shapes::Makes::{Lone, Node};
 use crate::reading::shapes::Piece::{
     Further, Header, Leaf, List, Mark, Next, NextName, NextTwo, OneOf, Part,
 };
-use crate::reading::shapes::{ITSELF, Line, Shape, Sort};
-use crate::reading::signs::Sign;
+use crate::reading::shapes::{
+    A_NAME, A_NAMED, A_NUMBER, A_REGION, A_TERM, ITSELF, Line, Piece, Shape, Sort,
+};
+use crate::reading::signs::Sign::{
+    Ampersand, Arrow, As, Assign, Bang, Bar, Const, Dyn, Equal, Error, Expr, Extern, Fn, For,
+    Greater, Is, LeftBrace, LeftBracket, LeftParen, Less, Mut, Null, PathSep, RightBrace,
+    RightBracket, RightParen, Semicolon, Star, Unsafe, UpTo,
+};
 use crate::reading::tree::Form;
 use term_enums::{ExternAbi, FnHeader, Mutability, Safety};
 
+// What function pointers and binders have.
+const INPUTS: Piece = List(Sort::Term, Line::Inputs);
+
+const AN_OUTPUT: Piece = Part(Sort::Output);
+
+const UNBOUND: Piece = Part(Sort::NoBinder);
+
+const BOUND_LIST: Piece = Part(Sort::Variables);
+
 // What `*` is to be followed by.
-const CONST_OR_MUT: Expected = Expected::Either(Sign::Const, Sign::Mut);
+const CONST_OR_MUT: Expected = Expected::Either(Const, Mut);
 
 // What a function pointer is headed by where nothing else is read.
 pub(in crate::reading) const PLAIN_HEADER: FnHeader = FnHeader {
@@ -23,7 +39,7 @@ pub(in crate::reading) const PLAIN_HEADER: FnHeader = FnHeader {
 pub(in crate::reading) static TERM: [Shape; 2] = [
     (
         Node(Form::Pat),
-        &[Part(Sort::Plain), Mark(Sign::Is), Part(Sort::Pattern)],
+        &[Part(Sort::Plain), Mark(Is), Part(Sort::Pattern)],
     ),
     (ITSELF, &[Part(Sort::Plain)]),
 ];
@@ -33,168 +49,101 @@ pub(in crate::reading) static PLAIN: [Shape; 22] = [
     (
         Node(Form::Applied),
         &[
-            NextName(Sign::Less),
-            Leaf(Expected::Name),
-            Mark(Sign::Less),
-            List(Sort::Term, Line::To(Sign::Greater)),
+            NextName(Less),
+            A_NAME,
+            Mark(Less),
+            List(Sort::Term, To(Greater)),
         ],
     ),
-    (ITSELF, &[Leaf(Expected::Name)]),
+    (ITSELF, &[A_NAME]),
     (
         Node(Form::Ref(Mutability::Mut)),
-        &[
-            Mark(Sign::Ampersand),
-            Leaf(Expected::Region),
-            Mark(Sign::Mut),
-            Part(Sort::Term),
-        ],
+        &[Mark(Ampersand), A_REGION, Mark(Mut), A_TERM],
     ),
     (
         Node(Form::Ref(Mutability::Not)),
-        &[
-            Mark(Sign::Ampersand),
-            Leaf(Expected::Region),
-            Part(Sort::Term),
-        ],
+        &[Mark(Ampersand), A_REGION, A_TERM],
     ),
     (
         Lone(Form::Tuple),
-        &[
-            Mark(Sign::LeftParen),
-            List(Sort::Term, Line::To(Sign::RightParen)),
-        ],
+        &[Mark(LeftParen), List(Sort::Term, To(RightParen))],
     ),
     (
         Node(Form::Array),
         &[
-            Mark(Sign::LeftBracket),
-            Part(Sort::Term),
-            Mark(Sign::Semicolon),
-            Part(Sort::Term),
-            Mark(Sign::RightBracket),
+            Mark(LeftBracket),
+            A_TERM,
+            Mark(Semicolon),
+            A_TERM,
+            Mark(RightBracket),
         ],
     ),
     (
         Node(Form::Slice),
-        &[
-            Mark(Sign::LeftBracket),
-            Part(Sort::Term),
-            Mark(Sign::RightBracket),
-        ],
+        &[Mark(LeftBracket), A_TERM, Mark(RightBracket)],
     ),
-    (Node(Form::Never), &[Mark(Sign::Bang)]),
+    (Node(Form::Never), &[Mark(Bang)]),
     (
         Node(Form::RawPtr(Mutability::Not)),
-        &[
-            Mark(Sign::Star),
-            OneOf(Sign::Const, CONST_OR_MUT),
-            Part(Sort::Term),
-        ],
+        &[Mark(Star), OneOf(Const, CONST_OR_MUT), A_TERM],
     ),
     (
         Node(Form::RawPtr(Mutability::Mut)),
-        &[
-            Mark(Sign::Star),
-            OneOf(Sign::Mut, CONST_OR_MUT),
-            Part(Sort::Term),
-        ],
+        &[Mark(Star), OneOf(Mut, CONST_OR_MUT), A_TERM],
     ),
     (
         Node(Form::Error),
-        &[
-            Mark(Sign::LeftBrace),
-            Mark(Sign::Error),
-            Mark(Sign::RightBrace),
-        ],
+        &[Mark(LeftBrace), Mark(Error), Mark(RightBrace)],
     ),
     (
         Node(Form::Branch),
-        &[
-            Mark(Sign::LeftBrace),
-            List(Sort::Term, Line::To(Sign::RightBrace)),
-        ],
+        &[Mark(LeftBrace), List(Sort::Term, To(RightBrace))],
     ),
     (
         Node(Form::Expr),
         &[
-            Mark(Sign::Expr),
-            Leaf(Expected::Number),
-            Mark(Sign::LeftParen),
-            List(Sort::Term, Line::To(Sign::RightParen)),
+            Mark(Expr),
+            A_NUMBER,
+            Mark(LeftParen),
+            List(Sort::Term, To(RightParen)),
         ],
     ),
-    (
-        Node(Form::Const),
-        &[Mark(Sign::Const), Part(Sort::Constant)],
-    ),
+    (Node(Form::Const), &[Mark(Const), Part(Sort::Constant)]),
     (
         Node(Form::Object),
-        &[
-            Mark(Sign::Dyn),
-            List(Sort::Bound, Line::Bounds),
-            Leaf(Expected::Region),
-        ],
+        &[Mark(Dyn), List(Sort::Bound, Line::Bounds), A_REGION],
     ),
     (
         Node(Form::Associated),
         &[
-            Mark(Sign::Less),
-            Part(Sort::Term),
-            Mark(Sign::As),
-            Part(Sort::Named),
-            Mark(Sign::Greater),
-            Mark(Sign::PathSep),
-            Part(Sort::Named),
+            Mark(Less),
+            A_TERM,
+            Mark(As),
+            A_NAMED,
+            Mark(Greater),
+            Mark(PathSep),
+            A_NAMED,
         ],
     ),
     (
         Node(Form::FnPtr(PLAIN_HEADER)),
-        &[
-            Mark(Sign::For),
-            Part(Sort::Variables),
-            Header,
-            List(Sort::Term, Line::Inputs),
-            Part(Sort::Output),
-        ],
+        &[Mark(For), BOUND_LIST, Header, INPUTS, AN_OUTPUT],
     ),
     (
         Node(Form::UnsafeBinder),
-        &[
-            NextTwo(Sign::Unsafe, Sign::Less),
-            Mark(Sign::Unsafe),
-            Part(Sort::Variables),
-            Part(Sort::Term),
-        ],
+        &[NextTwo(Unsafe, Less), Mark(Unsafe), BOUND_LIST, A_TERM],
     ),
     (
         Node(Form::FnPtr(PLAIN_HEADER)),
-        &[
-            Next(Sign::Unsafe),
-            Part(Sort::NoBinder),
-            Header,
-            List(Sort::Term, Line::Inputs),
-            Part(Sort::Output),
-        ],
+        &[Next(Unsafe), UNBOUND, Header, INPUTS, AN_OUTPUT],
     ),
     (
         Node(Form::FnPtr(PLAIN_HEADER)),
-        &[
-            Next(Sign::Fn),
-            Part(Sort::NoBinder),
-            Header,
-            List(Sort::Term, Line::Inputs),
-            Part(Sort::Output),
-        ],
+        &[Next(Fn), UNBOUND, Header, INPUTS, AN_OUTPUT],
     ),
     (
         Node(Form::FnPtr(PLAIN_HEADER)),
-        &[
-            Next(Sign::Extern),
-            Part(Sort::NoBinder),
-            Header,
-            List(Sort::Term, Line::Inputs),
-            Part(Sort::Output),
-        ],
+        &[Next(Extern), UNBOUND, Header, INPUTS, AN_OUTPUT],
     ),
     (ITSELF, &[Leaf(Expected::Term)]),
 ];
@@ -203,18 +152,14 @@ pub(in crate::reading) static PLAIN: [Shape; 22] = [
 pub(in crate::reading) static CONSTANT: [Shape; 2] = [
     (
         Node(Form::Error),
-        &[
-            Mark(Sign::LeftBrace),
-            Mark(Sign::Error),
-            Mark(Sign::RightBrace),
-        ],
+        &[Mark(LeftBrace), Mark(Error), Mark(RightBrace)],
     ),
     (ITSELF, &[Leaf(Expected::Const)]),
 ];
 
 // The output of a function pointer, which is `()` where it is left out.
 pub(in crate::reading) static OUTPUT: [Shape; 2] = [
-    (ITSELF, &[Mark(Sign::Arrow), Part(Sort::Term)]),
+    (ITSELF, &[Mark(Arrow), A_TERM]),
     (Node(Form::Tuple), &[]),
 ];
 
@@ -224,83 +169,61 @@ pub(in crate::reading) static BOUND: [Shape; 2] = [
         Node(Form::Projects),
         &[
             Part(Sort::Binder),
-            Part(Sort::Named),
-            Mark(Sign::PathSep),
-            Part(Sort::Named),
-            Mark(Sign::Equal),
-            Part(Sort::Term),
+            A_NAMED,
+            Mark(PathSep),
+            A_NAMED,
+            Mark(Equal),
+            A_TERM,
         ],
     ),
-    (
-        Node(Form::Implements),
-        &[Part(Sort::Binder), Part(Sort::Named)],
-    ),
+    (Node(Form::Implements), &[Part(Sort::Binder), A_NAMED]),
 ];
 
 // A trait, or what one declares, and what is given to it.
 pub(in crate::reading) static NAMED: [Shape; 1] = [(
     Node(Form::Named),
-    &[
-        Leaf(Expected::Name),
-        Further(Sign::Less),
-        List(Sort::Argument, Line::To(Sign::Greater)),
-    ],
+    &[A_NAME, Further(Less), List(Sort::Argument, To(Greater))],
 )];
 
 // An argument of a trait, or what a type or a constant of the trait is.
 pub(in crate::reading) static ARGUMENT: [Shape; 2] = [
     (
         Node(Form::Assigned),
-        &[
-            NextName(Sign::Assign),
-            Leaf(Expected::Name),
-            Mark(Sign::Assign),
-            Part(Sort::Term),
-        ],
+        &[NextName(Assign), A_NAME, Mark(Assign), A_TERM],
     ),
-    (ITSELF, &[Part(Sort::Term)]),
+    (ITSELF, &[A_TERM]),
 ];
 
 // A pattern: alternatives, or a lone one without a `|` before it.
 pub(in crate::reading) static PATTERN: [Shape; 2] = [
     (
         Node(Form::Or),
-        &[
-            Mark(Sign::Bar),
-            List(Sort::Alternative, Line::By(Sign::Bar)),
-        ],
+        &[Mark(Bar), List(Sort::Alternative, By(Bar))],
     ),
-    (
-        Lone(Form::Or),
-        &[List(Sort::Alternative, Line::By(Sign::Bar))],
-    ),
+    (Lone(Form::Or), &[List(Sort::Alternative, By(Bar))]),
 ];
 
 // One alternative of a pattern: what takes a level of its own, or the values between two constants.
 pub(in crate::reading) static ALTERNATIVE: [Shape; 3] = [
-    (ITSELF, &[Next(Sign::Bang), Part(Sort::Grouped)]),
-    (ITSELF, &[Next(Sign::LeftParen), Part(Sort::Grouped)]),
+    (ITSELF, &[Next(Bang), Part(Sort::Grouped)]),
+    (ITSELF, &[Next(LeftParen), Part(Sort::Grouped)]),
     (
         Node(Form::Range),
-        &[Part(Sort::Plain), Mark(Sign::UpTo), Part(Sort::Plain)],
+        &[Part(Sort::Plain), Mark(UpTo), Part(Sort::Plain)],
     ),
 ];
 
 pub(in crate::reading) static GROUPED: [Shape; 2] = [
-    (Node(Form::NotNull), &[Mark(Sign::Bang), Mark(Sign::Null)]),
+    (Node(Form::NotNull), &[Mark(Bang), Mark(Null)]),
     (
         ITSELF,
-        &[
-            Mark(Sign::LeftParen),
-            Part(Sort::Pattern),
-            Mark(Sign::RightParen),
-        ],
+        &[Mark(LeftParen), Part(Sort::Pattern), Mark(RightParen)],
     ),
 ];
 
 // A binder, or the one that is left out.
 pub(in crate::reading) static BINDER: [Shape; 2] = [
-    (ITSELF, &[Mark(Sign::For), Part(Sort::Variables)]),
+    (ITSELF, &[Mark(For), BOUND_LIST]),
     (Node(Form::Bound), &[]),
 ];
 
@@ -309,13 +232,10 @@ pub(in crate::reading) static NO_BINDER: [Shape; 1] = [(Node(Form::Bound), &[])]
 // The variables of a binder. A constant may have `const` before it.
 pub(in crate::reading) static VARIABLES: [Shape; 1] = [(
     Node(Form::Bound),
-    &[
-        Mark(Sign::Less),
-        List(Sort::Variable, Line::To(Sign::Greater)),
-    ],
+    &[Mark(Less), List(Sort::Variable, To(Greater))],
 )];
 
 pub(in crate::reading) static VARIABLE: [Shape; 2] = [
-    (ITSELF, &[Mark(Sign::Const), Leaf(Expected::BoundConst)]),
+    (ITSELF, &[Mark(Const), Leaf(Expected::BoundConst)]),
     (ITSELF, &[Leaf(Expected::Bound)]),
 ];
