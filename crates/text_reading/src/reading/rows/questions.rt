@@ -274,12 +274,12 @@ pub(in crate::reading) static ASKED: [Shape; 33] = [
     (
         Node(Form::ImplsOverlap),
         &[
-            Mark(Sign::Overlap),
-            Leaf(Expected::Number),
-            Mark(Sign::Comma),
-            Leaf(Expected::Number),
-            Further(Sign::At),
-            Leaf(Expected::Number),
+            Mark(Overlap),
+            A_NUMBER,
+            Mark(Comma),
+            A_NUMBER,
+            Further(At),
+            A_NUMBER,
         ],
     ),
     (
