@@ -10,7 +10,7 @@ from judging.asking import told
 from judging.crate import OTHER, OWN, head, is_blanket, is_whole, subject
 from judging.environments import arguments
 from judging.library import library, put
-from judging.turns import DECLARED, Bound
+from judging.turns import ALL, DECLARED, Bound
 
 # How deep goals are looked into, in which variables stand; how often more is asked once something was bound.
 BOUNDS_AT, ROUNDS = 4, 4
@@ -68,8 +68,11 @@ def opened(pair, said):
 def judge_met(it, asker, met):
     """Asks of impls whose headers meet whether a bound tells them apart: by what is spelled, by all impls, and by any
     beside."""
-    for one, some in zip(met, asker.ask([DECLARED], [[one.asked] for one in met])):
-        one.bound.note(some[0] if some else "")
+    asked = [[one.asked, *then_all(one.bound)] for one in met]
+    for one, some in zip(met, asker.ask([DECLARED], asked)):
+        for answer in some or []:
+            one.bound.note(answer)
+        one.bound.note_all(variables(one.bound))
     worlds_of = (worlds.spelled(it), worlds.all_own(it), worlds.perhaps(it))
     said = [said_of(asker, rules, met) for rules in worlds_of]
     found = []
@@ -79,6 +82,16 @@ def judge_met(it, asker, met):
         comes = met_because(goals, all(is_whole(impl.lacks) for impl in pair)) if is_sized else BY_SIZED
         found.append(Judged(pair[0].place, f"{text}, of {pair[1].place}: {head(pair[0])}, {head(pair[1])}", comes))
     return found
+
+
+def variables(bound):
+    return [f"?{number}" for number in range(bound.next["?"])]
+
+
+def then_all(bound):
+    """Has one variable stand for all: so it is seen which were made one."""
+    some = variables(bound)
+    return [f"then {ALL} == ({', '.join(some)},)"] if some else []
 
 
 def said_of(asker, rules, met):

@@ -63,7 +63,7 @@ def known_of(it, asker, impls):
             groups.append([environment.text(), f"prove {alias} == ?0 at {DEPTH}"])
         for impl, some in zip(left, asker.ask([DECLARED, *worlds.spelled(it)], groups, behind)):
             (name, _), *_ = known[id(impl)].unknown
-            bound = Bound()
+            bound = Bound([("?", 1)])
             bound.note(some[0] if some else "")
             term = bound.terms.get("?0", "?")
             values[id(impl)][name] = name if "?" in term else term
@@ -77,7 +77,8 @@ def behind(group):
 
 def prove(asker, rules, asked, depth):
     """Gives what is said of goals where something is assumed: of the last of each list, or the first that isn't so."""
-    bounds, said = [Bound() for _ in asked], ["yes"] * len(asked)
+    # A goal has as many variables as there are goals before it.
+    bounds, said = [Bound([("?", len(goals))]) for _, goals in asked], ["yes"] * len(asked)
     for turn in range(ROUNDS):
         now = [at for at, (_, goals) in enumerate(asked) if turn < len(goals) and said[at] == "yes"]
         goals = [bounds[at].put(asked[at][1][turn]) for at in now]
