@@ -5,7 +5,6 @@ from judging.aliases import Aliases, comes_to, cut, erased, name_for, spelled
 from judging.asking import split_list
 from judging.crate import ELSEWHERE, names_first
 from judging.library import WORD, put
-from judging.worlds import asked_traits
 
 # How many aliases may stand in one: of `T`, of its types, and of theirs.
 MOST = 3
@@ -110,25 +109,13 @@ class Environment:
 
     def text(self):
         """Gives the statement that assumes all of it."""
-        return assumed([*self.clauses, *self.said()])
+        said = [*self.clauses, *(f"{alias} == {term}" for alias, term in self.aliases.said())]
+        return f"assume {', '.join(dict.fromkeys(said))}" if said else "assume"
 
-    def said(self):
-        return [f"{alias} == {term}" for alias, term in self.aliases.said()]
-
-    def text_perhaps(self):
-        """Gives one that assumes besides what traits of other crates may state that aren't described."""
-        clauses, asked = list(self.clauses), asked_traits(self.crate)
-        may = [it.name for it in self.crate.traits.values() if not it.local and not it.params and it.name in asked]
-        for it in self.clauses:
-            of, trait = cut(it, ": ")
-            known = self.crate.traits.get(names_first(trait))
-            if known is None or known.place == ELSEWHERE:
-                clauses += [f"{of}: {name}" for name in may]
-        return assumed([*clauses, *self.said()])
-
-
-def assumed(clauses):
-    return f"assume {', '.join(dict.fromkeys(clauses))}" if clauses else "assume"
+    def implies_more(self):
+        """Says whether a bound is by a trait of another crate, of which it isn't described what that states."""
+        traits = {names_first(cut(it, ": ")[1]) for it in self.clauses}
+        return any(it not in self.crate.traits or self.crate.traits[it].place == ELSEWHERE for it in traits)
 
 
 def goal_in(environment, impl, clause):

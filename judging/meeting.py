@@ -6,11 +6,11 @@ import itertools
 from judging import headers, worlds
 from judging.answering import AMBIGUOUS, BY_BOUND, BY_HEADER, BY_SIZED, DEPTH, ELSEWHERE, LATE, OPEN, UNSPELLED, WRONG
 from judging.answering import Judged, open_because
-from judging.asking import told
+from judging.asking import split_list, told
 from judging.crate import OTHER, OWN, head, is_blanket, is_whole, subject
 from judging.environments import arguments
 from judging.library import library, put
-from judging.turns import DECLARED, Bound
+from judging.turns import ALL, DECLARED, Bound
 
 # How deep goals are looked into, in which variables stand; how often more is asked once something was bound.
 BOUNDS_AT, ROUNDS = 4, 4
@@ -68,17 +68,32 @@ def opened(pair, said):
 def judge_met(it, asker, met):
     """Asks of impls whose headers meet whether a bound tells them apart: by what is spelled, by all impls, and by any
     beside."""
-    for one, some in zip(met, asker.ask([DECLARED], [[one.asked] for one in met])):
-        one.bound.note(some[0] if some else "")
+    asked = [[one.asked, *then_all(one.bound)] for one in met]
+    for one, some in zip(met, asker.ask([DECLARED], asked)):
+        for answer in some or []:
+            one.bound.note(answer)
+        one.bound.note_all(variables(one.bound))
     worlds_of = (worlds.spelled(it), worlds.all_own(it), worlds.perhaps(it))
     said = [said_of(asker, rules, met) for rules in worlds_of]
     found = []
     for at, (pair, text, _, asks, sized, bound) in enumerate(met):
         goals = [tuple(world[at].get(ask, OPEN) for world in said) for ask in asks]
         is_sized = not any(is_unsized(it, bound.terms.get(var, "")) for var in sized)
-        comes = met_because(goals, all(is_whole(impl.lacks) for impl in pair)) if is_sized else BY_SIZED
+        whole = all(is_whole(impl.lacks) for impl in pair)
+        whole = whole and not any(may_be_unsized(bound.terms.get(var, "")) for var in sized)
+        comes = met_because(goals, whole) if is_sized else BY_SIZED
         found.append(Judged(pair[0].place, f"{text}, of {pair[1].place}: {head(pair[0])}, {head(pair[1])}", comes))
     return found
+
+
+def variables(bound):
+    return [f"?{number}" for number in range(bound.next["?"])]
+
+
+def then_all(bound):
+    """Has one variable stand for all: so it is seen which were made one."""
+    some = variables(bound)
+    return [f"then {ALL} == ({', '.join(some)},)"] if some else []
 
 
 def said_of(asker, rules, met):
@@ -114,6 +129,12 @@ def note(bound, said, asked, answers):
 
 def is_unsized(it, text):
     return headers.is_unsized(text) or text in {it.named.get(name, name) for name in library().unsized}
+
+
+def may_be_unsized(text):
+    """Says whether a type has an unsized one as an argument: no description says whether it holds that itself."""
+    of, _, args = text.partition("<")
+    return of.isidentifier() and any(headers.is_unsized(it) for it in split_list(args[:-1]))
 
 
 def met_because(goals, whole):

@@ -21,30 +21,28 @@ def stated(it):
 
 def judge_stated(it, asker):
     """Asks by what is spelled; what doesn't hold so, by more impls, if all is spelled that the impl itself asks for."""
-    goals = [(impl, clause) for impl, clause in stated(it)]
+    goals = list(stated(it))
     known = known_of(it, asker, {id(impl): impl for impl, _ in goals}.values())
-    asked = [(known[id(impl)], goal_in(known[id(impl)], impl, clause)) for impl, clause in goals]
-    said = prove(asker, worlds.spelled(it), texts(asked), DEPTH)
+    environments = [known[id(impl)] for impl, _ in goals]
+    asked = [(has.text(), goal_in(has, impl, clause)) for has, (impl, clause) in zip(environments, goals)]
+    said = prove(asker, worlds.spelled(it), asked, DEPTH)
     again = [at for at, (impl, _) in enumerate(goals) if said[at] != "yes" and is_spelled(impl)]
     some = [asked[at] for at in again]
-    by_own = prove(asker, worlds.all_own(it), texts(some), MORE_DEPTH)
-    some = [(environment.text_perhaps(), questions) for environment, questions in some]
-    more = dict(zip(again, zip(by_own, prove(asker, worlds.perhaps(it), some, MORE_DEPTH))))
+    more = [prove(asker, rules, some, MORE_DEPTH) for rules in (worlds.all_own(it), worlds.perhaps(it))]
+    more = dict(zip(again, zip(*more)))
     found = []
     for at, (impl, goal) in enumerate(goals):
-        own, any_ = more.get(at, (LATE, LATE))
         comes = HOLDS if said[at] == "yes" else UNSPELLED
         if at in more:
-            environment, questions = asked[at]
-            comes = open_because((said[at], own, any_), True)
-            if any_ == "no":
-                comes = ELSEWHERE if environment.open_in(impl) & names_in(questions[-1]) else WRONG
+            is_open = environments[at].implies_more() or environments[at].open_in(impl) & names_in(asked[at][1][-1])
+            comes = refused(is_open) if more[at][1] == "no" else open_because((said[at], *more[at]), True)
         found.append(Judged(impl.place, f"{said[at]}: {goal}, as {impl.name} states", comes))
     return found
 
 
-def texts(asked):
-    return [(environment.text(), questions) for environment, questions in asked]
+def refused(is_open):
+    """Says what comes of a goal to which the answer is no, whatever other crates have."""
+    return ELSEWHERE if is_open else WRONG
 
 
 def is_spelled(impl):
@@ -65,7 +63,7 @@ def known_of(it, asker, impls):
             groups.append([environment.text(), f"prove {alias} == ?0 at {DEPTH}"])
         for impl, some in zip(left, asker.ask([DECLARED, *worlds.spelled(it)], groups, behind)):
             (name, _), *_ = known[id(impl)].unknown
-            bound = Bound()
+            bound = Bound([("?", 1)])
             bound.note(some[0] if some else "")
             term = bound.terms.get("?0", "?")
             values[id(impl)][name] = name if "?" in term else term
@@ -79,7 +77,8 @@ def behind(group):
 
 def prove(asker, rules, asked, depth):
     """Gives what is said of goals where something is assumed: of the last of each list, or the first that isn't so."""
-    bounds, said = [Bound() for _ in asked], ["yes"] * len(asked)
+    # A goal has as many variables as there are goals before it.
+    bounds, said = [Bound([("?", len(goals))]) for _, goals in asked], ["yes"] * len(asked)
     for turn in range(ROUNDS):
         now = [at for at, (_, goals) in enumerate(asked) if turn < len(goals) and said[at] == "yes"]
         goals = [bounds[at].put(asked[at][1][turn]) for at in now]

@@ -2,11 +2,12 @@
 import collections
 import re
 
-from judging.asking import bindings
+from judging.asking import bindings, split_list
 
 VARIABLE = re.compile(r"('\?|\?c?)(\d+)")
 # How many variables questions may name; those that an impl makes come behind.
 NAMED = 48
+ALL = f"?{NAMED - 1}"
 DECLARED = f"variables ?{NAMED - 1}, '?{NAMED - 1}, ?c{NAMED - 1};"
 
 
@@ -23,6 +24,9 @@ class Bound:
     def note(self, answer):
         """Notes what an answer binds, by new names for the variables that the impls made."""
         made, found = {}, bindings(answer)
+        # What is bound may have what is bound in it.
+        for _ in found:
+            found = {name: VARIABLE.sub(lambda it: found.get(it[0], it[0]), term) for name, term in found.items()}
 
         def named(it):
             sort, number = it[1], int(it[2])
@@ -36,6 +40,11 @@ class Bound:
         for name, term in found.items():
             if int(VARIABLE.fullmatch(name)[2]) < NAMED:
                 self.terms.setdefault(name, VARIABLE.sub(named, term))
-        # What is bound may have what is bound in it.
         for _ in self.terms:
             self.terms = {name: self.put(term) for name, term in self.terms.items()}
+
+    def note_all(self, names):
+        """Notes what variables come to of which one stands for all."""
+        found = split_list(self.terms.pop(ALL, "()")[1:-1].rstrip(","))
+        if len(found) == len(names):
+            self.terms |= {name: term for name, term in zip(names, found) if name != term}
