@@ -223,7 +223,9 @@ impl<'a> Namer<'a> {
             }
             (Form::Supertraits, _) => self.note_supertraits(node, parts),
             (Form::Overlap, [lhs, rhs]) => self.note_overlap(*lhs, *rhs),
-            (Form::ImplsOverlap, [lhs, rhs, depth @ ..]) => self.note_impls_overlap(*lhs, *rhs, depth),
+            (Form::ImplsOverlap, [lhs, rhs, depth @ ..]) => self.note_impls_overlap(
+                *lhs, *rhs, depth,
+            ),
             (Form::Methods, [methods @ .., ty]) => self.note_methods(methods, *ty),
             (Form::Prove, [goal, depth @ ..]) => self.note_prove(node, *goal, depth),
             (Form::File | Form::Parameters | Form::Terms | Form::Error, _) => Ok(()),
