@@ -7,7 +7,9 @@ from judging.terms import UNIT
 YES, NO, AMBIGUOUS, DEEP = "yes", "no", "ambiguous", "depth"
 CODES = {"E0277": NO, "E0283": AMBIGUOUS, "E0282": AMBIGUOUS, "E0284": AMBIGUOUS, "E0275": DEEP}
 # What rustc does beside: what the function has hides all impls; each type is to be known in the end.
-HIDES, KNOWN = "the environment first", "types known"
+HIDES, KNOWN, OWN = "the environment first", "types known", "an impl's own overflow"
+# What is said behind a verdict where an impl may be refused by itself.
+OR_DEEP = ", or an impl overflows"
 # What is said where it is ambiguous what the function has and what impls give: rustc takes the former, at each goal.
 IF_FIRST = "ambiguous, unless the environment comes first"
 # The old solver tells a goal both of which one bound fails and another one does not end; and an overflow where it was
@@ -169,6 +171,12 @@ def is_open(text, bound, seen=()):
     return any(it in seen or it not in bound or is_open(bound[it], bound, (*seen, it)) for it in re.findall(r"\?\d+", text))
 
 
+def overflows(impl):
+    """Says whether an impl for all types asks for itself at a larger one: rustc refuses it, whatever is asked."""
+    (trait, ty, *_), asks = impl
+    return isinstance(ty, int) and any(ask[:2] == (trait, ("Row", ty)) for ask in asks)
+
+
 def expected(case, answers):
     alone, verdict = map(told, answers)
     by = ()
@@ -181,6 +189,8 @@ def expected(case, answers):
     bound = asking.bindings(answers[-1].text)
     if verdict == YES and VAR in variables(case.more[2][1:]) and is_open("?0", bound):
         return kinds.Expected(AMBIGUOUS, (*by, KNOWN))
+    if verdict in (YES, NO, AMBIGUOUS) and any(map(overflows, case.more[0])):
+        return kinds.Expected(verdict + OR_DEEP, (*by, OWN))
     return kinds.Expected(verdict, by)
 
 
@@ -196,6 +206,8 @@ def observed(case, said):
 
 
 def agrees(expected, seen):
+    if expected.endswith(OR_DEEP):
+        return seen in (DEEP, BOTH) or agrees(expected.removesuffix(OR_DEEP), seen)
     allowed = {BOTH: (NO, DEEP)}.get(seen, (seen,))
     return expected in (*allowed, asking.LATE) or expected == IF_FIRST and seen in (YES, NO, AMBIGUOUS)
 
