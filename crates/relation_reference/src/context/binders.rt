@@ -72,6 +72,7 @@ fn placeholder<I: Interner>(
 }
 
 // The placeholders of a universe for what a binder binds, each numbered by its place.
+#[inline(always)]
 fn placeholders<I: Interner>(
     cx: &mut I,
     universe: UniverseIndex,
@@ -122,6 +123,7 @@ impl<I: Interner> RefCtxt<I> {
     }
 
     // New variables of the current universe for what a binder binds, in the order of its list.
+    #[inline(always)]
     fn next_args_infer(
         &mut self,
         bound_vars: &BoundVars<I>,
