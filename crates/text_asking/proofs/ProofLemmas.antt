@@ -23,10 +23,10 @@ proof_later e p h = record {
 }
 
 -- What a no names is known.
-pub told_known : {Key Id Name F : Type 0} (c d : Context Key Id Name) (ks : List (Binder Key (ClausesKey Key)))
-    (g : ClauseKey Key) (told : Result (Told Key) F) → NoNamesKnown c d ks g told → KnowsTold d.meaning told
-told_known c d ks g (Ok (Yes i)) h = tt
-told_known c d ks g (Ok (No None)) h = tt
-told_known c d ks g (Ok (No (Some b))) h = h.is_known
-told_known c d ks g (Ok (Maybe why)) h = tt
-told_known c d ks g (Err f) h = tt
+pub told_known : {Key Id Name F : Type 0} (c : Context Key Id Name) (ks : List (Binder Key (ClausesKey Key)))
+    (g : ClauseKey Key) (told : Result (Told Key) F) → NoNamesKnown c c ks g told → KnowsTold c.meaning told
+told_known c ks g (Ok (Yes i)) h = tt
+told_known c ks g (Ok (No None)) h = tt
+told_known c ks g (Ok (No (Some b))) h = h.is_known
+told_known c ks g (Ok (Maybe why)) h = tt
+told_known c ks g (Err f) h = tt

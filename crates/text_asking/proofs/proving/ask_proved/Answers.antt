@@ -41,9 +41,10 @@ pub returns-clause-grown : goal.returns-clause-grown
 returns-clause-grown g c =
     extends_on (extends_on c.proof_of.ensures.grown c.have_named.ensures.grown) c.ask_proof.ensures.grown
 
-pub source_named-requires : goal.source_named-requires
-source_named-requires g c = proof_later (extends_on c.have_named.ensures.grown c.ask_proof.ensures.grown)
+pub source_named-source-requires : goal.source_named-source-requires
+source_named-source-requires g c = proof_later (extends_on c.have_named.ensures.grown c.ask_proof.ensures.grown)
     c.in-Some.proof c.in-Some.ensures.sure
 
 pub returns-in-Ok-ask_proof-clause-known : goal.returns-in-Ok-ask_proof-clause-known
-returns-in-Ok-ask_proof-clause-known g c = told_known _ _ _ _ c.in-Ok-ask_proof.told c.in-Ok-ask_proof.ensures.named
+returns-in-Ok-ask_proof-clause-known g c =
+    told_known _ _ c.in-Some.proof.goal c.in-Ok-ask_proof.told c.in-Ok-ask_proof.ensures.named
