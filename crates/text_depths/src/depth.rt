@@ -127,12 +127,18 @@ fn relates(program: &Program) -> bool {
     false
 }
 
-// Adds the numbers of the arguments of an impl's header.
-fn push_header(program: &Program, number: usize, found: &mut Vec<usize>) -> Result<(), AllocError> {
-    if let Some(clause) = program.clauses.get(number) {
-        if let Says::Claims(_, _, args) = clause.says {
+// Adds the numbers of the terms of a predicate: its arguments, and what a trait's type comes to.
+fn push_said(program: &Program, number: usize, found: &mut Vec<usize>) -> Result<(), AllocError> {
+    let Some(clause) = program.clauses.get(number) else {
+        return Ok(());
+    };
+    match clause.says {
+        Says::Claims(_, _, args) => push_range(&program.parts, args, found)?,
+        Says::ComesTo(_, _, args, term) => {
             push_range(&program.parts, args, found)?;
+            found.push(term)?;
         }
+        _ => {}
     }
     Ok(())
 }
@@ -150,10 +156,10 @@ fn push_related(
             push_range(&program.parts, *rhs, found)?;
         }
         QuestionKind::Overlap { left, right } => {
-            push_header(program, *left, found)?;
-            push_header(program, *right, found)?;
+            push_said(program, *left, found)?;
+            push_said(program, *right, found)?;
         }
-        QuestionKind::Prove { goal, .. } => push_header(program, *goal, found)?,
+        QuestionKind::Prove { goal, .. } => push_said(program, *goal, found)?,
         _ => {}
     }
     Ok(())

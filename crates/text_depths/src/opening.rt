@@ -20,13 +20,16 @@ fn levels_of(alloc: Global, program: &Program) -> Result<Vec<usize>, AllocError>
     Ok(levels)
 }
 
-// How many levels the arguments of a predicate have at most.
+// How many levels the terms of a predicate have at most: its arguments, and what a trait's type comes to.
 fn levels_said(program: &Program, levels: &[usize], says: &Says) -> usize {
-    let mut most = 0usize;
-    if let Says::Claims(_, _, args) = says {
-        for number in program.parts.get(args.first..args.behind).unwrap_or(&[]) {
-            most = levels.get(*number).copied().unwrap_or(0).max(most);
-        }
+    let (args, most) = match says {
+        Says::Claims(_, _, args) => (args, 0),
+        Says::ComesTo(_, _, args, term) => (args, levels.get(*term).copied().unwrap_or(0)),
+        _ => return 0,
+    };
+    let mut most = most;
+    for number in program.parts.get(args.first..args.behind).unwrap_or(&[]) {
+        most = levels.get(*number).copied().unwrap_or(0).max(most);
     }
     most
 }
