@@ -7,7 +7,7 @@ from judging.terms import UNIT
 YES, NO, AMBIGUOUS, DEEP = "yes", "no", "ambiguous", "depth"
 CODES = {"E0277": NO, "E0283": AMBIGUOUS, "E0282": AMBIGUOUS, "E0284": AMBIGUOUS, "E0275": DEEP}
 # What rustc does beside: what the function has hides all impls; each type is to be known in the end.
-HIDES, KNOWN, OWN = "the environment first", "types known", "an impl's own overflow"
+HIDES, KNOWN, OWN = "the environment first", "types known", "overflow"
 # What is said behind a verdict where an impl may be refused by itself.
 OR_DEEP = ", or an impl overflows"
 # What is said where it is ambiguous what the function has and what impls give: rustc takes the former, at each goal.
