@@ -7,7 +7,7 @@ from judging.terms import UNIT
 YES, NO, AMBIGUOUS, DEEP = "yes", "no", "ambiguous", "depth"
 CODES = {"E0277": NO, "E0283": AMBIGUOUS, "E0282": AMBIGUOUS, "E0284": AMBIGUOUS, "E0275": DEEP}
 # What rustc does beside: what the function has hides all impls; each type is to be known in the end.
-HIDES, KNOWN, OWN = "the environment first", "types known", "overflow"
+HIDES, KNOWN = "the environment first", "types known"
 # What is said behind a verdict where an impl may be refused by itself.
 OR_DEEP = ", or an impl overflows"
 # What is said where it is ambiguous what the function has and what impls give: rustc takes the former, at each goal.
@@ -190,7 +190,7 @@ def expected(case, answers):
     if verdict == YES and VAR in variables(case.more[2][1:]) and is_open("?0", bound):
         return kinds.Expected(AMBIGUOUS, (*by, KNOWN))
     if verdict in (YES, NO, AMBIGUOUS) and any(map(overflows, case.more[0])):
-        return kinds.Expected(verdict + OR_DEEP, (*by, OWN))
+        return kinds.Expected(verdict + OR_DEEP, (*by, kinds.OVERFLOW))
     return kinds.Expected(verdict, by)
 
 
