@@ -12,7 +12,7 @@ use Rattle.relation_semantics.specs.Contexts.{Context}
 use Rattle.relation_semantics.specs.ContextCalls.{Instantiated}
 use Rattle.relation_semantics.specs.Generalising.{InstantiatesBy, Generalised, outside, any_part}
 use Rattle.relation_semantics.specs.Lawful.{State, items_of}
-use Rattle.relation_semantics.specs.Parts.{IsFormed}
+use Rattle.relation_semantics.specs.Parts.{IsRigid}
 use Rattle.relation_semantics.specs.Relation.{Items, IsAlias}
 use Rattle.relation_semantics.specs.Resolving.{IsShallow, root as shallow_root, stays_bound, formed}
 use Rattle.relation_semantics.specs.Stores.{Store, resolved}
@@ -23,7 +23,7 @@ use Rattle.relation_combining.specs.Combining.{seen}
 use Rattle.relation_combining.proofs.SolvingVariables.{type_comes_to_none}
 
 -- What a type comes to is an alias only where the type is one.
-alias_applied : (s : Assign) (t : Tree) → IsFormed t → IsAlias (apply s t) → IsAlias t
+alias_applied : (s : Assign) (t : Tree) → IsRigid t → IsAlias (apply s t) → IsAlias t
 alias_applied s (leaf (variable k n)) f h = absurd f
 alias_applied s (leaf (bound q d i)) f h = h
 alias_applied s (leaf (placeholder q u i)) f h = h

@@ -7,7 +7,7 @@ use Rattle.relation_semantics.specs.declared.relate.Step.TheVariants.{Parts}
 use Rattle.relation_semantics.specs.AskedAlone.{IsNoTyVar}
 use Rattle.relation_semantics.specs.Errors.{itself}
 use Rattle.relation_semantics.specs.Lawful.{State}
-use Rattle.relation_semantics.specs.Parts.{IsFormed}
+use Rattle.relation_semantics.specs.Parts.{IsRigid}
 use Rattle.relation_semantics.specs.Relation.{StaysWithin}
 use Rattle.relation_semantics.specs.Stores.{IsSound}
 use Rattle.relation_semantics.proofs.Deferring.{normal_not_left}
@@ -27,7 +27,7 @@ no_ty_var t o n e = o (type_var, n, e)
 no_var : (t : Tree) → (IsVariable t → ⊥) → IsNoVariable t
 no_var t o = (no_ty_var t o, (λ n e. o (int_var, n, e), λ n e. o (float_var, n, e)))
 
-no_var_formed : (t : Tree) → (IsVariable t → ⊥) → IsTerm type_sort t → StaysWithin 0 t → IsFormed t
+no_var_formed : (t : Tree) → (IsVariable t → ⊥) → IsTerm type_sort t → StaysWithin 0 t → IsRigid t
 no_var_formed t o s w = let n = no_var t o in type_formed t s w n.0 n.1.0 n.1.1
 
 -- Ordinary types are left to no goal.
@@ -50,6 +50,6 @@ module _ {Key Id Name : Type 0} (r : State Key Id Name) (a b : TyKey Key) (are :
   pub stepped_by_parts : AskedTerms solver_manner None (λ m. m.ty) r a b → IsTerm type_sort ((r.meaning).ty a) →
       IsTerm type_sort ((r.meaning).ty b) → IsSound r.store → SteppedTys solver_manner r r a b (Ok (Parts a b))
   stepped_by_parts asked sa sb sound = let t = (r.meaning).ty a in let u = (r.meaning).ty b in
-      parts_step r r.meaning r.store r.lawful r.lawful (λ l. l) IsFormed t u (r.meaning).ty a b sound (itself refl)
+      parts_step r r.meaning r.store r.lawful r.lawful (λ l. l) IsRigid t u (r.meaning).ty a b sound (itself refl)
       (itself refl) (λ j n e. e) asked (no_var_formed t are.0.1 sa (term_within r.store t asked.left_in))
       (no_var_formed u are.1.1 sb (term_within r.store u asked.right_in)) are.2

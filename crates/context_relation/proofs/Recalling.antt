@@ -24,7 +24,7 @@ use Rattle.relation_semantics.specs.AskedAlone.{AsksAlone, IsTyVar, IsNoTyVar}
 use Rattle.relation_semantics.specs.ContextCalls.{Instantiated}
 use Rattle.relation_semantics.specs.Contexts.{Context}
 use Rattle.relation_semantics.specs.Goals.{goal_of}
-use Rattle.relation_semantics.specs.Parts.{IsFormed}
+use Rattle.relation_semantics.specs.Parts.{IsRigid}
 use Rattle.relation_semantics.specs.Steps.{Taints}
 use Rattle.relation_semantics.specs.Relation.{at}
 use Rattle.relation_semantics.specs.Lawful.{State, Pair, Manners, Stepped, Shown, HasRelated, RemembersRelated, RemembersAtMost, AgreesIn, MeansPair}
@@ -75,10 +75,10 @@ module _ {Key Id Name : Type 0} (M : Manners) (r : State Key Id Name) (a b : TyK
       (r.ambient, a, b) z.variance z.left z.right (all z.pair z.is_in)
 
   -- So it is related by doing nothing.
-  pub met_step : RemembersRelated M r → IsRemembered r a b → Stepped M IsFormed r r ((r.meaning).ty a)
+  pub met_step : RemembersRelated M r → IsRemembered r a b → Stepped M IsRigid r r ((r.meaning).ty a)
       ((r.meaning).ty b) (r.meaning).ty (Ok (Done a))
   met_step all z = let h = met_related all z in
-      hit_is_step M IsFormed r (r.meaning).ty a ((r.meaning).ty b) h.left_known h.shown
+      hit_is_step M IsRigid r (r.meaning).ty a ((r.meaning).ty b) h.left_known h.shown
       (λ st began. subst (λ v. AgreesIn r st (at v) ((r.meaning).ty a) ((r.meaning).ty b)) z.variance
       (subst₂ (AgreesIn r st (at (z.pair).0)) z.left z.right (began.agree z.pair z.is_in).agree))
 

@@ -21,7 +21,7 @@ use Rattle.relation_semantics.specs.Goals.{Goal, goal_of, subtype_predicate, IsO
 use Rattle.relation_semantics.specs.Alphabets.{IsPredicateOf}
 use Rattle.relation_semantics.specs.Lawful.{State, Pair, Stepped, MayAnswer, items_in}
 use Rattle.relation_semantics.specs.Outcomes.{Outcome}
-use Rattle.relation_semantics.specs.Parts.{IsFormed}
+use Rattle.relation_semantics.specs.Parts.{IsRigid}
 use Rattle.relation_semantics.specs.Relation.{Interpretation, Rel, at}
 use Rattle.relation_semantics.specs.Stores.{MayStandFor}
 use Rattle.relation_semantics.proofs.AgreeingBefore.{root_agreed}
@@ -96,8 +96,8 @@ module _ {Key Id Name A E : Type 0} {r q : State Key Id Name} {x : A} (i k : ℕ
 
   -- The goal relates the two at the variance, and where they are one, its sides are.
   pub subtype_step : {K : Type 0} (tree : K → Tree) (t : K) → tree t ≡ a → IsTrue (known a) →
-      Stepped solver_manner IsFormed r q a b tree (Ok (Done t))
-  subtype_step tree t answer sure = goal_step IsFormed a b tree p h in_order outcome t
+      Stepped solver_manner IsRigid r q a b tree (Ok (Done t))
+  subtype_step tree t answer sure = goal_step IsRigid a b tree p h in_order outcome t
       (subst (MayAnswer solver_manner q r.ambient a) (sym answer) (may_itself solver_manner q r.ambient a))
       (subst (λ z. IsTrue (known z)) (sym answer) sure)
       (λ st began. root_agreed st r.store began.sound began.later r.kept.settings (items_in r) r.ambient type_var i a b

@@ -15,7 +15,7 @@ use Rattle.relation_semantics.specs.AliasGoals.{alias_at}
 use Rattle.relation_semantics.specs.Errors.{itself, HaveNoError}
 use Rattle.relation_semantics.specs.Goals.{Goal, goal_of, well_formed_predicate}
 use Rattle.relation_semantics.specs.Lawful.{State, Manners, RemembersRelated, items_in}
-use Rattle.relation_semantics.specs.Parts.{IsFormed}
+use Rattle.relation_semantics.specs.Parts.{IsRigid}
 use Rattle.relation_semantics.specs.Relation.{IsAlias, IsError}
 use Rattle.relation_semantics.specs.Resolving.{formed}
 use Rattle.relation_semantics.specs.Settings.{DefersAliases}
@@ -193,7 +193,7 @@ module _ {Key Id Name : Type 0} (r q : State Key Id Name) where
       subst Says (sym is) (refused t (f (Ok (Done t)) h))
 
   steps_error : (M : Manners) (a b : TyKey Key) (res : Result (Step (TyKey Key)) (RelateFault Key Id Name)) →
-      (one_has_variable r.meaning a b ≡ false → IsFormed ((r.meaning).ty a) × IsFormed ((r.meaning).ty b)) →
+      (one_has_variable r.meaning a b ≡ false → IsRigid ((r.meaning).ty a) × IsRigid ((r.meaning).ty b)) →
       StepsTys r q a b res → StepsError M r q ((r.meaning).ty a) ((r.meaning).ty b) res
   steps_error M a b res forms (one_type e l is) promised none differ s t x y f g n m o = absurd (differ e)
   steps_error M a b res forms (without_variables u e h) promised none differ s t x y f g n m o =
@@ -239,7 +239,7 @@ module _ {Key Id Name : Type 0} (r q : State Key Id Name) where
 
   steps_open : (M : Manners) (a b : TyKey Key) (res : Result (Step (TyKey Key)) (RelateFault Key Id Name)) →
       Extends r.meaning q.meaning → IsTrue (known ((r.meaning).ty a)) → IsTrue (known ((r.meaning).ty b)) →
-      (one_has_variable r.meaning a b ≡ false → IsFormed ((r.meaning).ty a) × IsFormed ((r.meaning).ty b)) →
+      (one_has_variable r.meaning a b ≡ false → IsRigid ((r.meaning).ty a) × IsRigid ((r.meaning).ty b)) →
       StepsTys r q a b res → StepsOpen M r q (q.meaning).ty ((r.meaning).ty a) ((r.meaning).ty b) res
   steps_open M a b res extends ka kb forms (one_type e l is) promised none differ s t x y f g d ts us over =
       absurd (differ e)
@@ -263,7 +263,7 @@ module _ {Key Id Name : Type 0} (r q : State Key Id Name) where
   -- A step of two types registers alone what is asked of them.
   steps_alone : (M : Manners) (a b : TyKey Key) (res : Result (Step (TyKey Key)) (RelateFault Key Id Name)) →
       RemembersRelated M r → Extends r.meaning q.meaning → IsTrue (known ((r.meaning).ty a)) →
-      (one_has_variable r.meaning a b ≡ false → IsFormed ((r.meaning).ty a) × IsFormed ((r.meaning).ty b)) →
+      (one_has_variable r.meaning a b ≡ false → IsRigid ((r.meaning).ty a) × IsRigid ((r.meaning).ty b)) →
       StepsTys r q a b res → StepsAlone M r q (q.meaning).ty ((r.meaning).ty a) ((r.meaning).ty b) res
   steps_alone M a b res related extends k forms (one_type e l is) promised differ s t x y p f g asks = absurd (differ e)
   steps_alone M a b res related extends k forms (without_variables n e h) promised differ s t x y p f g asks =
@@ -277,7 +277,7 @@ module _ {Key Id Name : Type 0} (r q : State Key Id Name) where
       formed_alone : (res : Result (Step (TyKey Key)) (RelateFault Key Id Name)) →
           AsksAlone r.kept.settings r.ambient ((r.meaning).ty a) ((r.meaning).ty b) p → TysCombine r q a b res →
           StepRegistersAlone r q (q.meaning).ty ((r.meaning).ty a) p res
-      formed_alone res (of_variables u w d) h = absurd (subst IsFormed u.1 (forms e).0)
+      formed_alone res (of_variables u w d) h = absurd (subst IsRigid u.1 (forms e).0)
       formed_alone res (of_alias l o clean u w d) h = alias_alone a b res extends k p l o clean d h
   steps_alone M a b res related extends k forms (resolved_first l t' n e f' g' h) promised differ s t x y p f g asks =
       let left = reads_once r.store ((r.meaning).ty a) x ((r.meaning).ty l) f.reads (f'.reads).reads f.shallow f'.shallow in
@@ -291,7 +291,7 @@ module _ {Key Id Name : Type 0} (r q : State Key Id Name) where
   pub steps_at_once : (M : Manners) (a b : TyKey Key) (res : Result (Step (TyKey Key)) (RelateFault Key Id Name)) →
       RemembersRelated M r → Extends r.meaning q.meaning → IsTrue (known ((r.meaning).ty a)) →
       IsTrue (known ((r.meaning).ty b)) →
-      (one_has_variable r.meaning a b ≡ false → IsFormed ((r.meaning).ty a) × IsFormed ((r.meaning).ty b)) →
+      (one_has_variable r.meaning a b ≡ false → IsRigid ((r.meaning).ty a) × IsRigid ((r.meaning).ty b)) →
       StepsTys r q a b res → StepsAtOnce M r q (q.meaning).ty ((r.meaning).ty a) ((r.meaning).ty b) res
   steps_at_once M a b res related extends ka kb forms h = (
     steps_alone M a b res related extends ka forms h,

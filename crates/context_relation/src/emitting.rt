@@ -61,7 +61,7 @@ impl<'a, Infcx: InferCtxtLike> PredicateEmittingRelation<Infcx> for SolverRelati
         &mut *self.infcx
     }
 
-    fn context_grows(&self) {}
+    fn lemma_context_grows(&self) {}
 
     // As upstream's: constraints on regions are recorded with the relation's own span.
     fn span(&self) -> Span<Infcx::Interner> {

@@ -167,8 +167,8 @@ impl<'a, Infcx: InferCtxtLike> TypeRelation<Infcx::Interner> for SolverRelating<
         self.infcx.cx_mut()
     }
 
-    fn interner_grows(&self) {
-        self.infcx.interner_grows();
+    fn lemma_interner_grows(&self) {
+        self.infcx.lemma_interner_grows();
     }
 
     fn ambient(&self) -> Variance {
@@ -256,7 +256,7 @@ impl<'a, Infcx: InferCtxtLike> TypeRelation<Infcx::Interner> for SolverRelating<
         self.step_binders(a, b, round)
     }
 
-    fn tys_done(
+    fn note_tys(
         &mut self,
         a: &Ty<Infcx::Interner>,
         b: &Ty<Infcx::Interner>,
@@ -265,7 +265,7 @@ impl<'a, Infcx: InferCtxtLike> TypeRelation<Infcx::Interner> for SolverRelating<
         Ok(())
     }
 
-    fn ty_args_done(
+    fn note_ty_args(
         &mut self,
         a_ty: &Ty<Infcx::Interner>,
         b_ty: &Ty<Infcx::Interner>,

@@ -356,7 +356,7 @@ impl<'a, Infcx: InferCtxtLike> SolverRelating<'a, Infcx> {
     /// where an argument of either that the item declares bivariant is left open; else nothing. It is what
     /// `combine_ty_args` does.
     ///
-    /// It is the step `ty_args_done`, and called where the arguments were related at the variances that the item
+    /// It is the step `note_ty_args`, and called where the arguments were related at the variances that the item
     /// declares. Both types are the relation's, and the lists are theirs.
     ///
     /// # Errors

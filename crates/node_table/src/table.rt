@@ -71,7 +71,7 @@ impl<N: Eq + Hash + Drop> NodeTable<N> {
     ///
     /// # Errors
     /// `OutOfMemory` where a growth was refused, and where there are 2^32 nodes: then the table is as it was.
-    pub fn add(&mut self, node: N) -> Result<u32, OutOfMemory>
+    pub fn intern(&mut self, node: N) -> Result<u32, OutOfMemory>
         ensures number { IfOk result (HasAt N.eq self.new node) }
         ensures there { (i : ℕ) → HasAt N.eq self.old node i → IsOk result × (self.new ≡ self.old) }
         ensures added { (self.new ≡ self.old) ⊎ (self.new ≡ self.old ++ node ∷ []) }

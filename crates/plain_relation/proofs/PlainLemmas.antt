@@ -21,7 +21,7 @@ use Rattle.relation_semantics.specs.Goals.{GoalInContext, Holds, MakesOneTree}
 use Rattle.relation_semantics.specs.Steps.{AddsConstraint}
 use Rattle.relation_semantics.specs.Outcomes.{Outcome, Exact}
 use Rattle.relation_semantics.specs.Measures.{Goes}
-use Rattle.relation_semantics.specs.Parts.{IsFormed}
+use Rattle.relation_semantics.specs.Parts.{IsRigid}
 use Rattle.relation_semantics.specs.Lawful.{items_of, Passes, Related, items_in}
 use Rattle.relation_semantics.specs.Constraints.{constraint_at, constraint_of}
 use Rattle.plain_relation.specs.Plain.{as_is, plain_settings, plain_store, plain_state, plain_manner}
@@ -60,7 +60,7 @@ none_left a b (inr (l, o)) = let e = l.0 in cc
 module _ {Key Id Name : Type 0} (m : Meaning Key Id Name) where
   -- Without variables, and with no bound variable that escapes, a type has a form.
   pub formed : (cs : List (RegionConstraint Key)) (t : Tree) → IsTerm type_sort t → IsTermIn (plain_store m cs) t →
-      IsFormed t
+      IsRigid t
   formed cs (leaf (variable k n)) h i = absurd (let l = made_of_term (plain_store m cs) k n i in omega (arith, l))
   formed cs (leaf (bound k d j)) h i =
       absurd (let l = term_within (plain_store m cs) (leaf (bound k d j)) i in omega (arith, l))

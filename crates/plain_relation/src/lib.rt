@@ -107,7 +107,7 @@ impl<I: Interner> TypeRelation<I> for PlainRelation<I> {
         &mut self.interner
     }
 
-    fn interner_grows(&self) {}
+    fn lemma_interner_grows(&self) {}
 
     fn ambient(&self) -> Variance {
         self.ambient
@@ -153,11 +153,11 @@ impl<I: Interner> TypeRelation<I> for PlainRelation<I> {
         Ok(None)
     }
 
-    fn tys_done(&mut self, _a: &Ty<I>, _b: &Ty<I>) -> RelateResult<I, ()> {
+    fn note_tys(&mut self, _a: &Ty<I>, _b: &Ty<I>) -> RelateResult<I, ()> {
         Ok(())
     }
 
-    fn ty_args_done(
+    fn note_ty_args(
         &mut self,
         _a_ty: &Ty<I>,
         _b_ty: &Ty<I>,

@@ -319,7 +319,7 @@ impl Interner for RefInterner {
         ensures there { RemakesTy (meaning_in self.old) (meaning_in self.new) kind result }
         ensures one_more { node_count self.new ≤ suc (node_count self.old) }
     {
-        let number = self.add(Node::Ty(kind))?;
+        let number = self.intern(Node::Ty(kind))?;
         Ok(TyKey(number))
     }
 
@@ -331,7 +331,7 @@ impl Interner for RefInterner {
         ensures there { RemakesRegion (meaning_in self.old) (meaning_in self.new) kind result }
         ensures one_more { node_count self.new ≤ suc (node_count self.old) }
     {
-        let number = self.add(Node::Region(kind))?;
+        let number = self.intern(Node::Region(kind))?;
         Ok(RegionKey(number))
     }
 
@@ -345,7 +345,7 @@ impl Interner for RefInterner {
         ensures one_more { node_count self.new ≤ suc (node_count self.old) }
     {
         let list = ShortList::of(self.alloc, tys)?;
-        let number = self.add(Node::Tys(list))?;
+        let number = self.intern(Node::Tys(list))?;
         Ok(TysKey(number))
     }
 
@@ -358,7 +358,7 @@ impl Interner for RefInterner {
         ensures there { RemakesConst (meaning_in self.old) (meaning_in self.new) kind result }
         ensures one_more { node_count self.new ≤ suc (node_count self.old) }
     {
-        let number = self.add(Node::Const(kind))?;
+        let number = self.intern(Node::Const(kind))?;
         Ok(ConstKey(number))
     }
 
@@ -371,7 +371,7 @@ impl Interner for RefInterner {
         ensures there { RemakesValTree (meaning_in self.old) (meaning_in self.new) kind result }
         ensures one_more { node_count self.new ≤ suc (node_count self.old) }
     {
-        let number = self.add(Node::ValTree(kind))?;
+        let number = self.intern(Node::ValTree(kind))?;
         Ok(ValTreeKey(number))
     }
 
@@ -384,7 +384,7 @@ impl Interner for RefInterner {
         ensures there { RemakesPat (meaning_in self.old) (meaning_in self.new) kind result }
         ensures one_more { node_count self.new ≤ suc (node_count self.old) }
     {
-        let number = self.add(Node::Pat(kind))?;
+        let number = self.intern(Node::Pat(kind))?;
         Ok(PatKey(number))
     }
 
@@ -398,7 +398,7 @@ impl Interner for RefInterner {
         ensures one_more { node_count self.new ≤ suc (node_count self.old) }
     {
         let list = ShortList::of(self.alloc, args)?;
-        let number = self.add(Node::Args(list))?;
+        let number = self.intern(Node::Args(list))?;
         Ok(ArgsKey(number))
     }
 
@@ -412,7 +412,7 @@ impl Interner for RefInterner {
         ensures one_more { node_count self.new ≤ suc (node_count self.old) }
     {
         let list = copied(self.alloc, branches)?;
-        let number = self.add(Node::Branches(list))?;
+        let number = self.intern(Node::Branches(list))?;
         Ok(BranchesKey(number))
     }
 
@@ -429,7 +429,7 @@ impl Interner for RefInterner {
         ensures one_more { node_count self.new ≤ suc (node_count self.old) }
     {
         let list = copied(self.alloc, alternatives)?;
-        let number = self.add(Node::Alternatives(list))?;
+        let number = self.intern(Node::Alternatives(list))?;
         Ok(AlternativesKey(number))
     }
 
@@ -446,7 +446,7 @@ impl Interner for RefInterner {
         ensures one_more { node_count self.new ≤ suc (node_count self.old) }
     {
         let list = copied(self.alloc, predicates)?;
-        let number = self.add(Node::ExistentialPredicates(list))?;
+        let number = self.intern(Node::ExistentialPredicates(list))?;
         Ok(ExistentialPredicatesKey(number))
     }
 
@@ -461,7 +461,7 @@ impl Interner for RefInterner {
         ensures one_more { node_count self.new ≤ suc (node_count self.old) }
     {
         let list = copied(self.alloc, bound_vars)?;
-        let number = self.add(Node::BoundVars(list))?;
+        let number = self.intern(Node::BoundVars(list))?;
         Ok(BoundVarsKey(number))
     }
 
@@ -474,7 +474,7 @@ impl Interner for RefInterner {
         ensures there { RemakesPredicate (meaning_in self.old) (meaning_in self.new) kind result }
         ensures one_more { node_count self.new ≤ suc (node_count self.old) }
     {
-        let number = self.add(Node::Predicate(kind))?;
+        let number = self.intern(Node::Predicate(kind))?;
         Ok(PredicateKey(number))
     }
 
@@ -487,7 +487,7 @@ impl Interner for RefInterner {
         ensures there { RemakesClause (meaning_in self.old) (meaning_in self.new) kind result }
         ensures one_more { node_count self.new ≤ suc (node_count self.old) }
     {
-        let number = self.add(Node::Predicate(Binder {
+        let number = self.intern(Node::Predicate(Binder {
             value: PredicateKind::Clause(kind.value),
             bound_vars: kind.bound_vars,
         }))?;
@@ -504,7 +504,7 @@ impl Interner for RefInterner {
         ensures one_more { node_count self.new ≤ suc (node_count self.old) }
     {
         let list = copied(self.alloc, clauses)?;
-        let number = self.add(Node::Clauses(list))?;
+        let number = self.intern(Node::Clauses(list))?;
         Ok(ClausesKey(number))
     }
 
@@ -528,7 +528,7 @@ impl Interner for RefInterner {
         ensures there { RemakesEmptyEnv (meaning_in self.old) (meaning_in self.new) result }
         ensures one_more { node_count self.new ≤ suc (node_count self.old) }
     {
-        let number = self.add(Node::Clauses(Vec::new(self.alloc)))?;
+        let number = self.intern(Node::Clauses(Vec::new(self.alloc)))?;
         Ok(ParamEnvKey(number))
     }
 

@@ -41,7 +41,7 @@ impl RefInterner {
     }
 
     // The key of the node, which is put at the end where it is new.
-    pub(super) fn add(&mut self, node: Node) -> Result<NodeKey, OutOfMemory>
+    pub(super) fn intern(&mut self, node: Node) -> Result<NodeKey, OutOfMemory>
         requires { IsTrue (known_entry (entry_of (table_meaning (items_in self.old) self.old.nodes) node)) }
         ensures number { let m = table_meaning (items_in self.old) self.old.nodes in
             IfOk result (λ k. StandsAt self.new.nodes k.0 (entry_of m node)) }

@@ -24,7 +24,7 @@ use Rattle.relation_combining.specs.declared.number_vars.NumberVid.{NumberVid}
 use Rattle.relation_semantics.specs.Errors.{itself, HaveNoError, IsDeferred}
 use Rattle.relation_semantics.specs.Generalising.{NumbersNameNothing}
 use Rattle.relation_semantics.specs.Lawful.{State, Asked, Stepped}
-use Rattle.relation_semantics.specs.Parts.{IsFormed, IsFormedConst}
+use Rattle.relation_semantics.specs.Parts.{IsRigid, IsFormedConst}
 use Rattle.relation_semantics.specs.Resolving.{IsShallowConst}
 use Rattle.relation_combining.specs.Solving.{solver_manner}
 use Rattle.relation_semantics.specs.Steps.{IsLater, IsNumberKind}
@@ -70,38 +70,38 @@ module _ {Key Id Name : Type 0} where
         Asked solver_manner (standing r m was L) r.ambient (m.ty a) (m.ty b) → IsTerm type_sort (m.ty a) →
         IsTerm type_sort (m.ty b) → IsNoTyVar (m.ty a) → IsNoTyVar (m.ty b) → HaveNoError (m.ty a) (m.ty b) →
         (IsDeferred r.kept.settings (m.ty a) (m.ty b) → ⊥) → MeetsTys m was now a b result →
-        Stepped solver_manner IsFormed (standing r m was L) (standing r n now K) (m.ty a) (m.ty b) n.ty result
+        Stepped solver_manner IsRigid (standing r m was L) (standing r n now K) (m.ty a) (m.ty b) n.ty result
     combined_tys same a b result asked s t o p clean left (equated k i j number x y joins is) =
-        subst (Stepped solver_manner IsFormed (standing r m was L) (standing r n now K) (m.ty a) (m.ty b) n.ty) (sym is)
-        (roots_step r IsFormed m n was now L K k (number_no_region k (of_numbers k number)) i j (m.ty a) (m.ty b) n.ty a same
+        subst (Stepped solver_manner IsRigid (standing r m was L) (standing r n now K) (m.ty a) (m.ty b) n.ty) (sym is)
+        (roots_step r IsRigid m n was now L K k (number_no_region k (of_numbers k number)) i j (m.ty a) (m.ty b) n.ty a same
         sound l joins.same joins.equates x y (ap (λ z. z.ty a) same))
     combined_tys same a b result asked s t o p clean left (left_bound k i x binds is) =
-        subst (Stepped solver_manner IsFormed (standing r m was L) (standing r n now K) (m.ty a) (m.ty b) n.ty) (sym is)
-        (number_step r IsFormed m n was now L K k i (m.ty a) (m.ty b) n.ty b same sound l binds x (ap (λ z. z.ty b) same)
+        subst (Stepped solver_manner IsRigid (standing r m was L) (standing r n now K) (m.ty a) (m.ty b) n.ty) (sym is)
+        (number_step r IsRigid m n was now L K k i (m.ty a) (m.ty b) n.ty b same sound l binds x (ap (λ z. z.ty b) same)
         asked.right_known)
     combined_tys same a b result asked s t o p clean left (right_bound k i x binds is) =
-        subst (Stepped solver_manner IsFormed (standing r m was L) (standing r n now K) (m.ty a) (m.ty b) n.ty) (sym is)
-        (number_step_back r IsFormed m n was now L K k i (m.ty a) (m.ty b) n.ty a same sound l binds x
+        subst (Stepped solver_manner IsRigid (standing r m was L) (standing r n now K) (m.ty a) (m.ty b) n.ty) (sym is)
+        (number_step_back r IsRigid m n was now L K k i (m.ty a) (m.ty b) n.ty a same sound l binds x
         (ap (λ z. z.ty a) same) asked.left_known)
     combined_tys same a b result asked s t o p clean left (left_unlike u stays is) =
-        subst (Stepped solver_manner IsFormed (standing r m was L) (standing r n now K) (m.ty a) (m.ty b) n.ty) (sym is)
-        (left_apart r IsFormed m n was now L K decides a b n.ty (Unrelated (Sorts (record { expected = a; found = b })))
+        subst (Stepped solver_manner IsRigid (standing r m was L) (standing r n now K) (m.ty a) (m.ty b) n.ty) (sym is)
+        (left_apart r IsRigid m n was now L K decides a b n.ty (Unrelated (Sorts (record { expected = a; found = b })))
         same stays l refl u.kind (of_numbers u.kind u.of_numbers) u.number
         (variable_made was u.kind u.number (m.ty a) u.is asked.left_in) asked.left_known asked.right_known left u.is t
         p (term_context was (m.ty b) asked.right_in) u.unlike clean.1)
     combined_tys same a b result asked s t o p clean left (right_unlike u stays is) =
-        subst (Stepped solver_manner IsFormed (standing r m was L) (standing r n now K) (m.ty a) (m.ty b) n.ty) (sym is)
-        (right_apart r IsFormed m n was now L K decides a b n.ty (Unrelated (Sorts (record { expected = a; found = b })))
+        subst (Stepped solver_manner IsRigid (standing r m was L) (standing r n now K) (m.ty a) (m.ty b) n.ty) (sym is)
+        (right_apart r IsRigid m n was now L K decides a b n.ty (Unrelated (Sorts (record { expected = a; found = b })))
         same stays l refl u.kind (of_numbers u.kind u.of_numbers) u.number
         (variable_made was u.kind u.number (m.ty b) u.is asked.right_in) asked.left_known asked.right_known left u.is s
         o (term_context was (m.ty a) asked.left_in) u.unlike clean.0)
     combined_tys same a b result asked s t o p clean left (ty_variable (inl u) stays is) = absurd (o u.0 u.1)
     combined_tys same a b result asked s t o p clean left (ty_variable (inr u) stays is) = absurd (p u.0 u.1)
     combined_tys same a b result asked s t o p clean left (by_parts x y stays is) =
-        subst (Stepped solver_manner IsFormed (standing r m was L) (standing r n now K) (m.ty a) (m.ty b) n.ty) (sym is)
-        (subst₂ (λ z st. Stepped solver_manner IsFormed (standing r m was L) (standing r z st K) (m.ty a) (m.ty b) z.ty
+        subst (Stepped solver_manner IsRigid (standing r m was L) (standing r n now K) (m.ty a) (m.ty b) n.ty) (sym is)
+        (subst₂ (λ z st. Stepped solver_manner IsRigid (standing r m was L) (standing r z st K) (m.ty a) (m.ty b) z.ty
         (Ok (Parts a b))) (sym same) (sym stays)
-        (parts_step r m was L K l IsFormed (m.ty a) (m.ty b) m.ty a b sound (itself refl) (itself refl) (λ j n e. e) asked
+        (parts_step r m was L K l IsRigid (m.ty a) (m.ty b) m.ty a b sound (itself refl) (itself refl) (λ j n e. e) asked
         (type_formed (m.ty a) s (term_within was (m.ty a) asked.left_in) x.0 x.1.0 x.1.1)
         (type_formed (m.ty b) t (term_within was (m.ty b) asked.right_in) y.0 y.1.0 y.1.1) left))
 

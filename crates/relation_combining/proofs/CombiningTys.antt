@@ -15,7 +15,7 @@ use Rattle.relation_semantics.specs.Contexts.{Context}
 use Rattle.relation_semantics.specs.Errors.{HaveNoError}
 use Rattle.relation_semantics.specs.Goals.{ambiguous_predicate}
 use Rattle.relation_semantics.specs.Lawful.{State}
-use Rattle.relation_semantics.specs.Parts.{IsFormed}
+use Rattle.relation_semantics.specs.Parts.{IsRigid}
 use Rattle.relation_semantics.specs.Relation.{IsError, sort_of}
 use Rattle.relation_semantics.specs.Stores.{IsSound}
 use Rattle.relation_semantics.proofs.Standing.{term_context, term_sort_of}
@@ -77,14 +77,14 @@ module _ {Key Id Name : Type 0} {r : State Key Id Name} {c : Context Key Id Name
   -- An error taints, and is the answer.
   pub error_left : (q : State Key Id Name) → TaintsAlone r q → KeepsKept r q → IsError ta →
       SteppedTys solver_manner r q a b (Ok (Done a))
-  error_left q h k e = left_tainted IsFormed ta tb (q.meaning).ty h k (subst IsSound (sym o.store) sound)
+  error_left q h k e = left_tainted IsRigid ta tb (q.meaning).ty h k (subst IsSound (sym o.store) sound)
       (term_context r.store ta asked.left_in) (term_context r.store tb asked.right_in)
       (sorted_there a asked.left_known) (sorted_there b asked.right_known) one_sort (inl e) a
       (ap (λ m. m.ty a) h.meaning) asked.left_known
 
   pub error_right : (q : State Key Id Name) → TaintsAlone r q → KeepsKept r q → IsError tb →
       SteppedTys solver_manner r q a b (Ok (Done b))
-  error_right q h k e = right_tainted IsFormed ta tb (q.meaning).ty h k (subst IsSound (sym o.store) sound)
+  error_right q h k e = right_tainted IsRigid ta tb (q.meaning).ty h k (subst IsSound (sym o.store) sound)
       (term_context r.store ta asked.left_in) (term_context r.store tb asked.right_in)
       (sorted_there a asked.left_known) (sorted_there b asked.right_known) one_sort (inr e) b
       (ap (λ m. m.ty b) h.meaning) asked.right_known
@@ -110,7 +110,7 @@ module _ {Key Id Name : Type 0} {r : State Key Id Name} {c : Context Key Id Name
         registered : (p : Tree) × (alias_at r.ambient ta tb ≡ Some p) →
             SteppedTys solver_manner r q a b res × TysCombine r q a b res
         registered p = let g = subst (λ z. IfSome z (λ y. RegistersGoal {A = A} {F = E} r q y (Err e))) p.1 h in (
-          subst (SteppedTys solver_manner r q a b) (sym is) (goal_refused IsFormed ta tb (q.meaning).ty p.0 g),
+          subst (SteppedTys solver_manner r q a b) (sym is) (goal_refused IsRigid ta tb (q.meaning).ty p.0 g),
           not_registered clean (inl l) (record { store = g.store; goals = g.goals }) is,
         )
 
@@ -127,6 +127,6 @@ module _ {Key Id Name : Type 0} {r : State Key Id Name} {c : Context Key Id Name
         LeftAs r.kept.settings ta tb Open → RegistersGoal {A = A} {F = E} r q ambiguous_predicate (Err e) → res ≡ Err Memory →
         SteppedTys solver_manner r q a b res × TysCombine r q a b res
     not_to_open e res l g is = (
-      subst (SteppedTys solver_manner r q a b) (sym is) (goal_refused IsFormed ta tb (q.meaning).ty ambiguous_predicate g),
+      subst (SteppedTys solver_manner r q a b) (sym is) (goal_refused IsRigid ta tb (q.meaning).ty ambiguous_predicate g),
       not_registered clean (inr l) (record { store = g.store; goals = g.goals }) is,
     )

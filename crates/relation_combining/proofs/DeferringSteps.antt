@@ -20,7 +20,7 @@ use Rattle.relation_semantics.specs.Headline.{IsFirstOrderPair}
 use Rattle.relation_semantics.specs.Alphabets.{Alphabet, IsBuiltOf, IsPredicateOf, IsGoalOf, HasOpaque, HasNoError, Builds}
 use Rattle.relation_semantics.specs.Lawful.{State, Passes, Stepped, MayAnswer, RegisteredIn, BeganWith, AgreesIn, items_in}
 use Rattle.relation_semantics.specs.Outcomes.{Outcome}
-use Rattle.relation_semantics.specs.Parts.{IsFormed, IsFormedConst}
+use Rattle.relation_semantics.specs.Parts.{IsRigid, IsFormedConst}
 use Rattle.relation_semantics.specs.Relation.{at, sort_of, IsError, IsAlias}
 use Rattle.relation_semantics.specs.Settings.{DefersAliases, LeavesOpaque}
 use Rattle.relation_semantics.specs.OneUniverse.{BindsNoMore}
@@ -202,7 +202,7 @@ module _ {Key Id Name A E : Type 0} {r q : State Key Id Name} {x : A} (p : Tree)
     -- What the variance asks of an alias and another type.
     pub tys_to_goal : DefersAliases r.kept.settings → IsAlias ta ⊎ IsAlias tb → alias_at r.ambient ta tb ≡ Some p →
         SteppedTys solver_manner r q a b (Ok (Done a))
-    tys_to_goal l o e = goal_step IsFormed ta tb (q.meaning).ty p h
+    tys_to_goal l o e = goal_step IsRigid ta tb (q.meaning).ty p h
         (alias_registered (items_in r) r.kept.settings r.ambient r.store r.store ta tb p l.1 e o a_context b_context)
         (alias_goals_relate (items_in r) r.kept.environment r.ambient r.store r.goals ta tb p a_context b_context sa sb e)
         a answers_left left_sure (λ st began. left_agreed st began.sound r.kept.settings (items_in r) r.ambient ta tb
@@ -217,7 +217,7 @@ module _ {Key Id Name A E : Type 0} {r q : State Key Id Name} {x : A} (p : Tree)
     -- That too much was met.
     pub tys_left_open : LeavesOpaque r.kept.settings → IsOpaqueBeside ta tb ⊎ IsOpaqueBeside tb ta → p ≡ ambiguous_predicate →
         SteppedTys solver_manner r q a b (Ok (Done a))
-    tys_left_open l o e = goal_step IsFormed ta tb (q.meaning).ty p h (of_too_much l e)
+    tys_left_open l o e = goal_step IsRigid ta tb (q.meaning).ty p h (of_too_much l e)
         (subst (λ z. Outcome (items_in r) r.kept.environment (at r.ambient) r.store r.store r.goals
         (goal_of r.kept.environment z ∷ []) ta tb) (sym e)
         (ambiguous_relates (items_in r) r.kept.environment r.ambient r.store r.goals ta tb)) a answers_left left_sure

@@ -22,7 +22,7 @@ use Rattle.term_enums.specs.declared.FloatTy.{FloatTy}
 use Rattle.relation_semantics.specs.Relation.{StaysWithin}
 use Rattle.relation_semantics.specs.Steps.{IsNumberFor}
 use Rattle.relation_semantics.specs.Relation.{StaysWithin}
-use Rattle.relation_semantics.specs.Parts.{IsFormed}
+use Rattle.relation_semantics.specs.Parts.{IsRigid}
 use Rattle.relation_semantics.proofs.Numbers.{IsNumber, type_is_formed}
 use Rattle.relation_semantics.specs.NumberValues.{int_value_tree, float_value_tree}
 use Rattle.relation_combining.specs.declared.number_vars.NumberVid.{NumberVid}
@@ -33,7 +33,7 @@ use Rattle.relation_combining.specs.NumberVars.{IsIntValue, IsFloatValue}
 -- A type that is no type, integer or float variable is of a form.
 pub type_formed : (t : Tree) → IsTerm type_sort t → StaysWithin 0 t →
     ((n : ℕ) → t ≢ leaf (variable type_var n)) → ((n : ℕ) → t ≢ leaf (variable int_var n)) →
-    ((n : ℕ) → t ≢ leaf (variable float_var n)) → IsFormed t
+    ((n : ℕ) → t ≢ leaf (variable float_var n)) → IsRigid t
 type_formed t s w a i f = type_is_formed t s w apart
   where
     apart : (k : VarKind) (n : ℕ) → t ≢ leaf (variable k n)
@@ -49,7 +49,7 @@ not_true true h = absurd (false≢true h)
 
 -- So is a type in which no variable but of regions stands.
 pub free_formed : (t : Tree) (f : TypeFlags) → f ≡ flags_of t → IsTrue (not f.has_non_region_infer) →
-    IsTerm type_sort t → StaysWithin 0 t → IsFormed t
+    IsTerm type_sort t → StaysWithin 0 t → IsRigid t
 free_formed t f e without s w = type_formed t s w (λ n. apart (variable type_var n) refl) (λ n. apart (variable int_var n) refl)
     (λ n. apart (variable float_var n) refl)
   where

@@ -24,7 +24,7 @@ use Rattle.relation_semantics.specs.Alphabets.{BuiltFrom}
 use Rattle.relation_semantics.proofs.Building.{built_read}
 use Rattle.relation_semantics.proofs.Standing.{made_of_term}
 use Rattle.relation_semantics.specs.Resolving.{IsShallow, root, stays_bound, formed, IsShallowConst, const_root, no_variable}
-use Rattle.relation_semantics.specs.Parts.{IsFormed}
+use Rattle.relation_semantics.specs.Parts.{IsRigid}
 use Rattle.relation_combining.specs.Solving.{solver_manner}
 use Rattle.relation_combining.proofs.Exactly.{read_pair, step_read, exact_read, apart_read, unified_read}
 use Rattle.relation_semantics.specs.OneUniverse.{LeadsInUniverse}
@@ -52,7 +52,7 @@ pub shallow_ty_free : (st : Store) (t : Tree) → IsShallow st t → (k : VarKin
 shallow_ty_free st t (root j m d f) k n e =
     free_entry st k n (subst₂ (λ j p. bound_term st j p ≡ None) (cc (d, e)) (cc (d, e)) f)
 shallow_ty_free st t (stays_bound q d i o) k n e = absurd (cc (o, e))
-shallow_ty_free st t (formed f) k n e = absurd (subst IsFormed e f)
+shallow_ty_free st t (formed f) k n e = absurd (subst IsRigid e f)
 
 -- A variable that a term of the context is is the context's.
 pub variable_made : (st : Store) (k : VarKind) (n : ℕ) (t : Tree) → t ≡ leaf (variable k n) → IsTermIn st t →

@@ -32,7 +32,7 @@ use Rattle.term_enums.specs.declared.StructurallyRelateAliases.TheVariants.{No}
 use Rattle.relation_semantics.specs.Settings.{Settings}
 use Rattle.relation_semantics.specs.Errors.{ErrorOf, BindingError, of_binding, of_binding_back, of_entries, IsReadAs, itself, by_binding}
 use Rattle.relation_semantics.specs.ErasureLaws.{IsTypeOrConst}
-use Rattle.relation_semantics.specs.Parts.{IsFormed}
+use Rattle.relation_semantics.specs.Parts.{IsRigid}
 use Rattle.relation_semantics.specs.FirstOrder.{IsFirstOrder, IsFirstOrderStore}
 use Rattle.relation_semantics.specs.Generalising.{Obstacle, cycle, beyond, InstantiatesBy, RefusesByObstacle, MakesUnbound}
 use Rattle.relation_semantics.specs.Generalising.{NumbersNameNothing}
@@ -92,7 +92,7 @@ type_comes_to_none st t n (shallow_root k m e f) o h =
 type_comes_to_none st t n (stays_bound k d i e) o h =
     let z : leaf (bound k d i) ≡ leaf (variable type_var n) = sym (ap (apply (resolved st)) e) ∙ h in cc
 type_comes_to_none st t n (formed f) o h =
-    variable_alone (resolved st) t type_var n (λ j m e. subst IsFormed e f) h
+    variable_alone (resolved st) t type_var n (λ j m e. subst IsRigid e f) h
 
 -- The same of a constant.
 pub const_comes_to_none : (st : Store) (t : Tree) (n : ℕ) → IsShallowConst st t →

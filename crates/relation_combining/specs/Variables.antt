@@ -7,7 +7,7 @@ use Rattle.relation_terms.specs.Heads.{type_var, const_var, variable}
 use Rattle.relation_terms.specs.Meaning.{Meaning}
 use Rattle.relation_terms.specs.Trees.{leaf}
 use Rattle.relation_semantics.specs.Contexts.{Context}
-use Rattle.relation_semantics.specs.Parts.{IsFormed, IsFormedConst}
+use Rattle.relation_semantics.specs.Parts.{IsRigid, IsFormedConst}
 use Rattle.relation_semantics.specs.Relation.{StaysWithin}
 
 module _ {Key Id Name : Type 0} where
@@ -24,7 +24,7 @@ module _ {Key Id Name : Type 0} where
 
   -- A type, or a constant, has a form if nothing in it escapes a binder.
   abbrev pub IsFormedWithin : Meaning Key Id Name → TyKey Key → Type 0
-  IsFormedWithin m t = StaysWithin 0 (m.ty t) → IsFormed (m.ty t)
+  IsFormedWithin m t = StaysWithin 0 (m.ty t) → IsRigid (m.ty t)
 
   abbrev pub IsFormedConstWithin : Meaning Key Id Name → ConstKey Key → Type 0
   IsFormedConstWithin m t = StaysWithin 0 (m.const_ t) → IsFormedConst (m.const_ t)

@@ -60,7 +60,7 @@ pub trait PredicateEmittingRelation<Infcx: InferCtxtLike>: HasState<Infcx::Inter
 
     /// Does nothing: it shows that a later context in the place of the one that there is changes nothing of the
     /// relation but what is recorded and what its interner knows.
-    fn context_grows(&self)
+    fn lemma_context_grows(&self)
         ensures { FollowsContext Infcx.state Self.state context with_context self.now };
 
     /// The span with which constraints on regions are recorded.
@@ -261,11 +261,11 @@ pub fn combine_ty_args<Infcx: InferCtxtLike, R: PredicateEmittingRelation<Infcx>
     ensures noted { NotedTys (R.state r.old) (R.state r.new) a_ty.now b_ty.now result }
     ensures registers { AsksWellFormed R.state r.old r.new def_id.now a_ty.now b_ty.now a_args.now b_args.now result }
 {
-    r.context_grows();
+    r.lemma_context_grows();
     if !have_open_argument(r.infcx_mut(), def_id, a_args, b_args)? {
         return Ok(());
     }
-    r.context_grows();
+    r.lemma_context_grows();
     let predicates = both_well_formed(r.infcx_mut(), a_ty, b_ty)?;
     r.register_predicates(predicates.as_slice())?;
     Ok(())
@@ -293,7 +293,7 @@ fn register_ambiguous<Infcx: InferCtxtLike, R: PredicateEmittingRelation<Infcx>>
     requires lawful { (R.state relation.old).lawful }
     ensures { RegistersGoal (R.state relation.old) (R.state relation.new) ambiguous_predicate result }
 {
-    relation.context_grows();
+    relation.lemma_context_grows();
     let predicate = recording::ambiguous_predicate(relation.infcx_mut())?;
     register_one(relation, predicate)
 }
@@ -310,7 +310,7 @@ fn register_const_alias<Infcx: InferCtxtLike, R: PredicateEmittingRelation<Infcx
     ensures { let m = (R.state relation.old).meaning in RegistersGoal (R.state relation.old) (R.state relation.new)
         (alias_relate_predicate Equate (m.const_ a.now) (m.const_ b.now)) result }
 {
-    relation.context_grows();
+    relation.lemma_context_grows();
     let infcx = relation.infcx_mut();
     let (x, y) = (TermKind::Const(*a), TermKind::Const(*b));
     let predicate = recording::alias_relate_predicate(infcx, x, y, AliasRelationDirection::Equate)?;
@@ -323,7 +323,7 @@ fn taint<Infcx: InferCtxtLike, R: PredicateEmittingRelation<Infcx>>(relation: &m
     ensures alone { TaintsAlone (R.state relation.old) (R.state relation.new) }
     ensures kept { KeepsKept (R.state relation.old) (R.state relation.new) }
 {
-    relation.context_grows();
+    relation.lemma_context_grows();
     relation.infcx_mut().set_tainted_by_errors(ErrorGuaranteed);
 }
 
@@ -379,7 +379,7 @@ pub fn super_combine_tys<Infcx: InferCtxtLike, R: PredicateEmittingRelation<Infc
             Ok(Step::Done(*a))
         }
         Deferring::ToNone => {
-            relation.context_grows();
+            relation.lemma_context_grows();
             meet_tys(relation.infcx_mut(), a, b)
         }
     }
@@ -459,7 +459,7 @@ fn combine_shallow<Infcx: InferCtxtLike, R: PredicateEmittingRelation<Infcx>>(
         register_const_alias::<Infcx, R>(relation, a, b)?;
         return Ok(Step::Done(*b));
     }
-    relation.context_grows();
+    relation.lemma_context_grows();
     let aliases = relation.structurally_relate_aliases();
     meet_consts(relation.infcx_mut(), aliases, a, b)
 }

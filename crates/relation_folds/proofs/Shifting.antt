@@ -16,7 +16,7 @@ use Rattle.relation_terms.specs.declared.terms.keys.ConstKey.{ConstKey}
 use Rattle.relation_terms.specs.declared.terms.generic_arg.GenericArgKind.{GenericArgKind}
 use Rattle.relation_terms.specs.declared.terms.generic_arg.GenericArgKind.TheVariants.{Lifetime, Ty, Const}
 use Rattle.relation_terms.proofs.Members.{region_term, type_term, const_term}
-use Rattle.relation_folds.specs.Shifts.{standing, is_for, opens, shifted, arg_for, the_ty, the_region, the_const}
+use Rattle.relation_folds.specs.Shifts.{standing, is_for, opens, shifted, arg_for, expect_ty, expect_region, expect_const}
 
 -- The member at a place of a known list is known.
 pub known_at : {A : Type 0} (f : A → Tree) (xs : List A) (i : ℕ) → IsTrue (known (list_tree f xs)) →
@@ -41,21 +41,21 @@ within P false o h = tt
 module _ {Key Id Name : Type 0} (m : Meaning Key Id Name) where
   -- What is taken of an argument for a kind is known, where the argument is.
   pub known_ty : (o : Option (GenericArgKind Key)) → IfSome o (λ a. IsTrue (known (arg_tree m a))) →
-      IfSome (the_ty o) (λ x. IsTrue (known (m.ty x)))
+      IfSome (expect_ty o) (λ x. IsTrue (known (m.ty x)))
   known_ty None k = tt
   known_ty (Some (Ty t)) k = k
   known_ty (Some (Lifetime r)) k = tt
   known_ty (Some (Const c)) k = tt
 
   pub known_region : (o : Option (GenericArgKind Key)) → IfSome o (λ a. IsTrue (known (arg_tree m a))) →
-      IfSome (the_region o) (λ x. IsTrue (known (m.region x)))
+      IfSome (expect_region o) (λ x. IsTrue (known (m.region x)))
   known_region None k = tt
   known_region (Some (Ty t)) k = tt
   known_region (Some (Lifetime r)) k = k
   known_region (Some (Const c)) k = tt
 
   pub known_const : (o : Option (GenericArgKind Key)) → IfSome o (λ a. IsTrue (known (arg_tree m a))) →
-      IfSome (the_const o) (λ x. IsTrue (known (m.const_ x)))
+      IfSome (expect_const o) (λ x. IsTrue (known (m.const_ x)))
   known_const None k = tt
   known_const (Some (Ty t)) k = tt
   known_const (Some (Lifetime r)) k = tt
@@ -70,7 +70,7 @@ module _ {Key Id Name : Type 0} (m : Meaning Key Id Name) (is_ty : IsOfSort m.ty
 
   -- What stands for a variable is the argument, moved, where it is of the variable's kind.
   pub standing_ty : (depth : ℕ) (o : Option (GenericArgKind Key)) → IfSome o (λ a. IsTrue (known (arg_tree m a))) →
-      standing type_kind depth (option_map (arg_tree m) o) ≡ option_map (λ x. shifted depth (m.ty x)) (the_ty o)
+      standing type_kind depth (option_map (arg_tree m) o) ≡ option_map (λ x. shifted depth (m.ty x)) (expect_ty o)
   standing_ty depth None k = refl
   standing_ty depth (Some (Ty t)) k = sorted type_kind depth (m.ty t) type_sort (type_term (m.ty t) (is_ty t k))
   standing_ty depth (Some (Lifetime r)) k =
@@ -80,7 +80,7 @@ module _ {Key Id Name : Type 0} (m : Meaning Key Id Name) (is_ty : IsOfSort m.ty
 
   pub standing_region : (depth : ℕ) (o : Option (GenericArgKind Key)) → IfSome o (λ a. IsTrue (known (arg_tree m a))) →
       standing region_kind depth (option_map (arg_tree m) o) ≡
-      option_map (λ x. shifted depth (m.region x)) (the_region o)
+      option_map (λ x. shifted depth (m.region x)) (expect_region o)
   standing_region depth None k = refl
   standing_region depth (Some (Ty t)) k = sorted region_kind depth (m.ty t) type_sort (type_term (m.ty t) (is_ty t k))
   standing_region depth (Some (Lifetime r)) k =
@@ -90,7 +90,7 @@ module _ {Key Id Name : Type 0} (m : Meaning Key Id Name) (is_ty : IsOfSort m.ty
 
   pub standing_const : (depth : ℕ) (o : Option (GenericArgKind Key)) → IfSome o (λ a. IsTrue (known (arg_tree m a))) →
       standing const_kind depth (option_map (arg_tree m) o) ≡
-      option_map (λ x. shifted depth (m.const_ x)) (the_const o)
+      option_map (λ x. shifted depth (m.const_ x)) (expect_const o)
   standing_const depth None k = refl
   standing_const depth (Some (Ty t)) k = sorted const_kind depth (m.ty t) type_sort (type_term (m.ty t) (is_ty t k))
   standing_const depth (Some (Lifetime r)) k =
@@ -103,43 +103,43 @@ module _ {Key Id Name : Type 0} (m : Meaning Key Id Name) (is_ty : IsOfSort m.ty
     (xs : List (GenericArgKind Key)) (known_xs : IsTrue (known (list_tree (arg_tree m) xs))) where
   -- What is put for a variable of each kind.
   pub opens_ty : (n d i depth : ℕ) → opens (map (arg_tree m) xs) depth (leaf (bound (bound_kind type_kind n) d i)) ≡
-      option_map (λ x. shifted depth (m.ty x)) (the_ty (arg_for xs d i depth))
+      option_map (λ x. shifted depth (m.ty x)) (expect_ty (arg_for xs d i depth))
   opens_ty n d i depth =
       ap (λ o. cond (nat_eq d depth) (standing type_kind depth o) None) (slice_get-map (arg_tree m) xs i)
-      ∙ chosen type_kind depth (arg_tree m) m.ty the_ty (nat_eq d depth) (slice_get xs i) refl
+      ∙ chosen type_kind depth (arg_tree m) m.ty expect_ty (nat_eq d depth) (slice_get xs i) refl
       (standing_ty m is_ty is_region is_const depth (slice_get xs i) (known_at (arg_tree m) xs i known_xs))
 
   pub opens_region : (n d i depth : ℕ) →
       opens (map (arg_tree m) xs) depth (leaf (bound (bound_kind region_kind n) d i)) ≡
-      option_map (λ x. shifted depth (m.region x)) (the_region (arg_for xs d i depth))
+      option_map (λ x. shifted depth (m.region x)) (expect_region (arg_for xs d i depth))
   opens_region n d i depth =
       ap (λ o. cond (nat_eq d depth) (standing region_kind depth o) None) (slice_get-map (arg_tree m) xs i)
-      ∙ chosen region_kind depth (arg_tree m) m.region the_region (nat_eq d depth) (slice_get xs i) refl
+      ∙ chosen region_kind depth (arg_tree m) m.region expect_region (nat_eq d depth) (slice_get xs i) refl
       (standing_region m is_ty is_region is_const depth (slice_get xs i) (known_at (arg_tree m) xs i known_xs))
 
   pub opens_const : (n d i depth : ℕ) →
       opens (map (arg_tree m) xs) depth (leaf (bound (bound_kind const_kind n) d i)) ≡
-      option_map (λ x. shifted depth (m.const_ x)) (the_const (arg_for xs d i depth))
+      option_map (λ x. shifted depth (m.const_ x)) (expect_const (arg_for xs d i depth))
   opens_const n d i depth =
       ap (λ o. cond (nat_eq d depth) (standing const_kind depth o) None) (slice_get-map (arg_tree m) xs i)
-      ∙ chosen const_kind depth (arg_tree m) m.const_ the_const (nat_eq d depth) (slice_get xs i) refl
+      ∙ chosen const_kind depth (arg_tree m) m.const_ expect_const (nat_eq d depth) (slice_get xs i) refl
       (standing_const m is_ty is_region is_const depth (slice_get xs i) (known_at (arg_tree m) xs i known_xs))
 
   -- The argument is known.
   known_for : (d i depth : ℕ) → IfSome (arg_for xs d i depth) (λ a. IsTrue (known (arg_tree m a)))
   known_for d i depth = within (λ a. IsTrue (known (arg_tree m a))) (nat_eq d depth) (slice_get xs i) (known_at (arg_tree m) xs i known_xs)
 
-  pub ty_known : (d i depth : ℕ) (r : Option (TyKey Key)) (x : TyKey Key) → r ≡ the_ty (arg_for xs d i depth) →
+  pub ty_known : (d i depth : ℕ) (r : Option (TyKey Key)) (x : TyKey Key) → r ≡ expect_ty (arg_for xs d i depth) →
       r ≡ Some x → IsTrue (known (m.ty x))
   ty_known d i depth r x h is = subst (λ o. IfSome o (λ y. IsTrue (known (m.ty y)))) (sym h ∙ is)
       (known_ty m (arg_for xs d i depth) (known_for d i depth))
 
   pub region_known : (d i depth : ℕ) (r : Option (RegionKey Key)) (x : RegionKey Key) →
-      r ≡ the_region (arg_for xs d i depth) → r ≡ Some x → IsTrue (known (m.region x))
+      r ≡ expect_region (arg_for xs d i depth) → r ≡ Some x → IsTrue (known (m.region x))
   region_known d i depth r x h is = subst (λ o. IfSome o (λ y. IsTrue (known (m.region y)))) (sym h ∙ is)
       (known_region m (arg_for xs d i depth) (known_for d i depth))
 
   pub const_known : (d i depth : ℕ) (r : Option (ConstKey Key)) (x : ConstKey Key) →
-      r ≡ the_const (arg_for xs d i depth) → r ≡ Some x → IsTrue (known (m.const_ x))
+      r ≡ expect_const (arg_for xs d i depth) → r ≡ Some x → IsTrue (known (m.const_ x))
   const_known d i depth r x h is = subst (λ o. IfSome o (λ y. IsTrue (known (m.const_ y)))) (sym h ∙ is)
       (known_const m (arg_for xs d i depth) (known_for d i depth))

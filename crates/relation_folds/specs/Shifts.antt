@@ -52,17 +52,17 @@ opened ts t = folded (opens ts) 0 t
 abbrev pub arg_for : {Key : Type 0} → List (GenericArgKind Key) → ℕ → ℕ → ℕ → Option (GenericArgKind Key)
 arg_for xs d i depth = cond (nat_eq d depth) (slice_get xs i) None
 
-abbrev pub the_ty : {Key : Type 0} → Option (GenericArgKind Key) → Option (TyKey Key)
-the_ty (Some (Ty t)) = Some t
-the_ty o = None
+abbrev pub expect_ty : {Key : Type 0} → Option (GenericArgKind Key) → Option (TyKey Key)
+expect_ty (Some (Ty t)) = Some t
+expect_ty o = None
 
-abbrev pub the_region : {Key : Type 0} → Option (GenericArgKind Key) → Option (RegionKey Key)
-the_region (Some (Lifetime r)) = Some r
-the_region o = None
+abbrev pub expect_region : {Key : Type 0} → Option (GenericArgKind Key) → Option (RegionKey Key)
+expect_region (Some (Lifetime r)) = Some r
+expect_region o = None
 
-abbrev pub the_const : {Key : Type 0} → Option (GenericArgKind Key) → Option (ConstKey Key)
-the_const (Some (Const c)) = Some c
-the_const o = None
+abbrev pub expect_const : {Key : Type 0} → Option (GenericArgKind Key) → Option (ConstKey Key)
+expect_const (Some (Const c)) = Some c
+expect_const o = None
 
 -- Of a list of what is known the trees stay while an interner grows.
 pub stays_map : {A : Type 0} (f g : A → Tree) (xs : List A) → ((x : A) → IsTrue (known (f x)) → g x ≡ f x) →

@@ -89,7 +89,7 @@ fn subtype_predicate<Infcx: InferCtxtLike>(
     ensures same_store { (Infcx.state infcx.new).store ≡ (Infcx.state infcx.old).store }
     ensures made { MakesSubtype (Infcx.state infcx.old) (Infcx.state infcx.new) a_is_expected a.now b.now result }
 {
-    infcx.interner_grows();
+    infcx.lemma_interner_grows();
     mk_subtype(infcx.cx_mut(), a_is_expected, a, b)
 }
 
@@ -147,7 +147,7 @@ pub fn well_formed_predicate<Infcx: InferCtxtLike>(
     ensures same_store { (Infcx.state infcx.new).store ≡ (Infcx.state infcx.old).store }
     ensures made { MakesWellFormed (Infcx.state infcx.old) (Infcx.state infcx.new) ty.now result }
 {
-    infcx.interner_grows();
+    infcx.lemma_interner_grows();
     mk_well_formed(infcx.cx_mut(), ty)
 }
 
@@ -188,7 +188,7 @@ pub fn alias_relate_predicate<Infcx: InferCtxtLike>(
     ensures same_store { (Infcx.state infcx.new).store ≡ (Infcx.state infcx.old).store }
     ensures made { MakesAliasRelate (Infcx.state infcx.old) (Infcx.state infcx.new) a b direction result }
 {
-    infcx.interner_grows();
+    infcx.lemma_interner_grows();
     mk_alias_relate(infcx.cx_mut(), a, b, direction)
 }
 
@@ -249,6 +249,6 @@ pub fn ambiguous_predicate<Infcx: InferCtxtLike>(
     ensures same_store { (Infcx.state infcx.new).store ≡ (Infcx.state infcx.old).store }
     ensures made { MakesAmbiguous (Infcx.state infcx.old) (Infcx.state infcx.new) result }
 {
-    infcx.interner_grows();
+    infcx.lemma_interner_grows();
     mk_ambiguous(infcx.cx_mut())
 }

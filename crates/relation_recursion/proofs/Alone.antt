@@ -20,7 +20,7 @@ use Rattle.relation_semantics.specs.declared.relate.Step.TheVariants.{Done, Part
 use Rattle.relation_semantics.specs.Errors.{IsDeferred}
 use Rattle.relation_semantics.specs.Goals.{Goal, goal_of, well_formed_predicate}
 use Rattle.relation_semantics.specs.Lawful.{State, Manners, Passes}
-use Rattle.relation_semantics.specs.Parts.{IsFormed}
+use Rattle.relation_semantics.specs.Parts.{IsRigid}
 use Rattle.relation_semantics.specs.Relation.{sort_of}
 use Rattle.relation_semantics.specs.Settings.{Settings}
 use Rattle.relation_semantics.proofs.OneParts.{sort_is}
@@ -151,11 +151,11 @@ module _ {Key Id Name : Type 0} (M : Manners) (r q : State Key Id Name) (a b : T
   )
 
 -- No goal is asked alone of two forms that aren't left to one.
-pub formed_ask_none : (k : Settings) (v : Variance) (x y : Tree) → IsFormed x → (IsDeferred k x y → ⊥) → AsksNoneAlone k v x y
+pub formed_ask_none : (k : Settings) (v : Variance) (x y : Tree) → IsRigid x → (IsDeferred k x y → ⊥) → AsksNoneAlone k v x y
 formed_ask_none k v x y f left s t p asks = go asks
   where
     go : AsksAlone k v x y p → ⊥
-    go (of_variables u w d) = subst IsFormed u.1 f
+    go (of_variables u w d) = subst IsRigid u.1 f
     go (of_alias l o clean u w d) = left (inl (l, o))
 
 -- A fault says the same of whatever else might have been answered.

@@ -43,7 +43,7 @@ use Rattle.relation_semantics.specs.Errors.{alike_leaves, of_one_item, both_expr
 use Rattle.relation_semantics.specs.Errors.{FormError, mutability, pointer_mutability, tuple_size, empty_tuple, as_many, alias_arguments, sorts}
 use Rattle.relation_semantics.specs.Errors.{ConstFormError, const_mismatch, operations, AreOfOneConst, one_const_leaf}
 use Rattle.relation_semantics.specs.Outcomes.{NoEqualTerms}
-use Rattle.relation_semantics.specs.Parts.{IsFormed, IsFormedConst}
+use Rattle.relation_semantics.specs.Parts.{IsRigid, IsFormedConst}
 use Rattle.relation_semantics.specs.Parts.{direct_parts, const_parts_of, branches_of}
 use Rattle.relation_recursion.specs.Forms.{tree_outline}
 use Rattle.relation_recursion.specs.Comparing.{AreOfOneItem}
@@ -51,7 +51,7 @@ use Rattle.relation_terms.specs.declared.terms.alias.UnevaluatedConst.{Unevaluat
 use Rattle.relation_recursion.specs.declared.forms.Form.TheVariants.{Leaf as LeafForm}
 use Rattle.relation_semantics.proofs.OneParts.{lists_apart, count_applied}
 
-formed_no_variable : (t u : Tree) → IsFormed t → IsVariableFor t u → ⊥
+formed_no_variable : (t u : Tree) → IsRigid t → IsVariableFor t u → ⊥
 formed_no_variable (leaf (variable k n)) u h e = h
 formed_no_variable (leaf (bound k d i)) u h e = e
 formed_no_variable (leaf (placeholder k w n)) u h e = e
@@ -74,7 +74,7 @@ formed_const_no_variable nil u h e = e
 formed_const_no_variable (cons t ts) u h e = e
 
 -- Forms are no variables.
-pub formed_not_bindable : (t u : Tree) → IsFormed t → IsFormed u → AreBindable t u → ⊥
+pub formed_not_bindable : (t u : Tree) → IsRigid t → IsRigid u → AreBindable t u → ⊥
 formed_not_bindable t u f g (inl e) = formed_no_variable t u f e
 formed_not_bindable t u f g (inr e) = formed_no_variable u t g e
 
@@ -309,7 +309,7 @@ module _ {Key Id Name : Type 0} (m : Meaning Key Id Name) where
       go (suc a) (suc b) h k = sized e (sizes (omega (arith, h)) (omega (arith, k))) (omega (arith, h)) (omega (arith, k))
 
   -- Where the forms differ no assignment makes the types one.
-  alike_applied : (s : Assign) (a b : Tree) → IsFormed a → IsFormed b → apply s a ≡ apply s b → AreAlike a b
+  alike_applied : (s : Assign) (a b : Tree) → IsRigid a → IsRigid b → apply s a ≡ apply s b → AreAlike a b
   alike_applied s (leaf (atom x)) (leaf (atom y)) f g e = (let z : x ≡ y = cc in ap (λ z. leaf (atom (plain_atom z))) z)
   alike_applied s (leaf (atom x)) (leaf (placeholder k u n)) f g e = absurd (cc)
   alike_applied s (leaf (atom x)) (node k us) f g e = absurd (cc)
@@ -332,7 +332,7 @@ module _ {Key Id Name : Type 0} (m : Meaning Key Id Name) where
   alike_applied s a nil f g e = absurd g
   alike_applied s a (cons t u) f g e = absurd g
 
-  pub form_apart : (st : Store) (x y : TyKey Key) (e : TypeError Key Id Name) → IsFormed (m.ty x) → IsFormed (m.ty y) → IsTerm type_sort (m.ty x) → IsTerm type_sort (m.ty y) → FormError m x y e → NoEqualTerms st (m.ty x) (m.ty y)
+  pub form_apart : (st : Store) (x y : TyKey Key) (e : TypeError Key Id Name) → IsRigid (m.ty x) → IsRigid (m.ty y) → IsTerm type_sort (m.ty x) → IsTerm type_sort (m.ty y) → FormError m x y e → NoEqualTerms st (m.ty x) (m.ty y)
   form_apart st x y e f g s t (mutability {ts} {us} p q differ) = λ w a sat z. differ (let h = sym (ap (apply a) p) ∙ z ∙ ap (apply a) q in cc)
   form_apart st x y e f g s t (pointer_mutability {ts} {us} p q differ) = λ w a sat z. differ (let h = sym (ap (apply a) p) ∙ z ∙ ap (apply a) q in cc)
   form_apart st x y e f g s t (tuple_size {ts} {us} p q i j differ) = lists_apart st tuple tuple ts us (m.ty x) (m.ty y) p q (list_of tuple type_sort ts (m.ty x) p s) (list_of tuple type_sort us (m.ty y) q t) differ

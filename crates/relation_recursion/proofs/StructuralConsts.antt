@@ -27,7 +27,7 @@ use Rattle.relation_semantics.specs.Settings.{Settings}
 use Rattle.relation_semantics.specs.Errors.{ErrorOf, ErrorByForms, ErrorAs, Meeting, as_pair, as_forms, of_parts}
 use Rattle.relation_semantics.specs.Errors.{of_branches, of_kinds, of_forms, of_const_forms, FormError, ConstFormError}
 use Rattle.relation_semantics.specs.Errors.{AreOfOneConst, AreOfOneValue, values, expressions, const_parameters, one_value, as_many_branches, over_arguments, one_const_leaf}
-use Rattle.relation_semantics.specs.Parts.{IsFormed, IsFormedConst, const_parts_of, branches_of, const_head_of}
+use Rattle.relation_semantics.specs.Parts.{IsRigid, IsFormedConst, const_parts_of, branches_of, const_head_of}
 use Rattle.part_variances.specs.Handing.{IsPassedOnConst, IsFaultOfConst, passed_const, whole}
 use Rattle.relation_semantics.specs.Lawful.{State, Manners, MayAnswer, Passes, Refuses, RefusesAs, Related}
 use Rattle.relation_semantics.specs.Lawful.{RelatedAs, RelatedForms, ExactResult, ExactlyRelated, items_in}
@@ -446,8 +446,8 @@ module _ {Key Id Name : Type 0} {X : Type 0} (M : Manners) (r : State Key Id Nam
     records = tt;
   }
 
-  pub types_differ : (x y : TyKey Key) (e : TypeError Key Id Name) → v ≢ Bivariant → IsFormed ((r.meaning).ty x) →
-      IsFormed ((r.meaning).ty y) → IsTerm type_sort ((r.meaning).ty x) → IsTerm type_sort ((r.meaning).ty y) →
+  pub types_differ : (x y : TyKey Key) (e : TypeError Key Id Name) → v ≢ Bivariant → IsRigid ((r.meaning).ty x) →
+      IsRigid ((r.meaning).ty y) → IsTerm type_sort ((r.meaning).ty x) → IsTerm type_sort ((r.meaning).ty y) →
       IsTrue (known ((r.meaning).ty x)) → IsTrue (known ((r.meaning).ty y)) → FormError r.meaning x y e →
       RelatedForms M r r v ((r.meaning).ty x) ((r.meaning).ty y) tree (Err (Unrelated e))
   types_differ x y e d f g s t k l h =

@@ -22,7 +22,7 @@ use Rattle.relation_semantics.specs.Settings.{Settings}
 use Rattle.relation_semantics.specs.Errors.{ErrorOf, ErrorByForms, as_forms, IsHandedOn, of_parts, of_alias_parts, of_length}
 use Rattle.relation_semantics.specs.Errors.{AreOfOneForm, over_parts, over_aliases, one_leaf, parameters}
 use Rattle.relation_semantics.specs.Errors.{AreOfOneConst}
-use Rattle.relation_semantics.specs.Parts.{IsFormed, direct_parts, const_parts_of, head_of, const_head_of}
+use Rattle.relation_semantics.specs.Parts.{IsRigid, direct_parts, const_parts_of, head_of, const_head_of}
 use Rattle.part_variances.specs.Handing.{IsPassedOn, IsNoLength, IsFaultOfTy, passed, sized, IsFaultOfConst, passed_const, whole}
 use Rattle.relation_semantics.specs.Lawful.{State, Manners, MayAnswer, Passes, Refuses, RefusesAs, Related}
 use Rattle.relation_semantics.specs.Lawful.{RelatedForms, ExactResult, ExactlyRelated, items_in}
@@ -95,7 +95,7 @@ module _ {Key Id Name : Type 0} (n p : Meaning Key Id Name) (e : Extends n p) (s
     alias_error st f k l d ts us s' t m lt z w u =
         of_alias_parts i s' t m lt (subst₂ (ErrorOf p set j st (part_at j (alias k d) i v) f) z w u)
 
-    pub ty_complains : (st : Store) (f : TypeError Key Id Name) (g : RelateFault Key Id Name) → IsFormed a →
+    pub ty_complains : (st : Store) (f : TypeError Key Id Name) (g : RelateFault Key Id Name) → IsRigid a →
         AreOfOneForm a b → i < count (direct_parts a) → x ≡ nth i (direct_parts a) → y ≡ nth i (direct_parts b) →
         IsFaultOfTy a X Y (Unrelated f) g → ErrorOf p set j st (part_at j (head_of a) i v) f x y →
         (k : TypeError Key Id Name) × (g ≡ Unrelated k) × ErrorByForms p set j st v k a b
@@ -115,7 +115,7 @@ module _ {Key Id Name : Type 0} (n p : Meaning Key Id Name) (e : Extends n p) (s
     ty_complains st f g t (over_parts {h = hd} {ts} {us} s' k m) l z w (passed is o) h = (
       f,
       is,
-      ty_error st f hd ts us s' k (subst IsFormed s' t) m (subst (λ z. i < count (direct_parts z)) s' l)
+      ty_error st f hd ts us s' k (subst IsRigid s' t) m (subst (λ z. i < count (direct_parts z)) s' l)
           (z ∙ ap (λ z. nth i (direct_parts z)) s') (w ∙ ap (λ z. nth i (direct_parts z)) k) o
           (subst (λ z. ErrorOf p set j st (part_at j (head_of z) i v) f x y) s' h),
     )
@@ -177,7 +177,7 @@ consts_keep before after v a b o k = one_inside (at v) (parts (const_head_of a) 
 
 module _ {Key Id Name : Type 0} {r q : State Key Id Name} (M : Manners) (v : Variance) (a b : Tree) (i : ℕ) where
   -- Two parts of two types were refused, and so are the types.
-  module _ (is_formed : IsFormed a) (o : AreOfOneForm a b) (f : Fronted M r q (head_of a) v i (direct_parts a) (direct_parts b))
+  module _ (is_formed : IsRigid a) (o : AreOfOneForm a b) (f : Fronted M r q (head_of a) v i (direct_parts a) (direct_parts b))
       (are : AreParts r.store (direct_parts a) (direct_parts b)) (X Y : GenericArgKind Key)
       (x_known : IsTrue (known (arg_tree q.meaning X))) (y_known : IsTrue (known (arg_tree q.meaning Y)))
       (s : Sorted q.meaning) (lx : i < count (direct_parts a)) (ly : i < count (direct_parts b))
@@ -211,7 +211,7 @@ module _ {Key Id Name : Type 0} {r q : State Key Id Name} (M : Manners) (v : Var
           subst (KnowsFault p.meaning) z.1 (ty_fault_known p.meaning a X Y (Unrelated e) k kx ky t h.2),
         )
 
-    whole_type : (A B : Type 0) (p : State Key Id Name) (e : RelateFault Key Id Name) → IsFormed b →
+    whole_type : (A B : Type 0) (p : State Key Id Name) (e : RelateFault Key Id Name) → IsRigid b →
         ExactlyRelated {X = A} (M q.kept.settings) q.store p.store (part_at (items_in r) (head_of a) i v) (arg_tree q.meaning X)
         (arg_tree q.meaning Y) (Err e) → ExactlyRelated {X = B} (M r.kept.settings) r.store p.store v a b (Err e)
     whole_type A B p e is_formed' g exact is pair =
@@ -222,7 +222,7 @@ module _ {Key Id Name : Type 0} {r q : State Key Id Name} (M : Manners) (v : Var
         ey A A p e are exact is (formed_looked_at a is_formed) (parts_pair r.store a b pair)
         (λ z. g (manner_then M (λ m. m.is_exact) f.passes z)))
 
-    ty_exactly : (A B : Type 0) (p : State Key Id Name) (e k : RelateFault Key Id Name) → IsFormed b →
+    ty_exactly : (A B : Type 0) (p : State Key Id Name) (e k : RelateFault Key Id Name) → IsRigid b →
         IsFaultOfTy a X Y e k →
         ExactlyRelated {X = A} (M q.kept.settings) q.store p.store (part_at (items_in r) (head_of a) i v) (arg_tree q.meaning X)
         (arg_tree q.meaning Y) (Err e) → ExactlyRelated {X = B} (M r.kept.settings) r.store p.store v a b (Err k)
@@ -236,7 +236,7 @@ module _ {Key Id Name : Type 0} {r q : State Key Id Name} (M : Manners) (v : Var
         (whole_type A B p (Unrelated e) is_formed' g exact is pair)
 
     pub ty_refused : {A B : Type 0} {p : State Key Id Name} (tree : A → Tree) (answer : B → Tree)
-        (e k : RelateFault Key Id Name) → IsFormed b → IsTrue (known (arg_tree p.meaning X)) →
+        (e k : RelateFault Key Id Name) → IsRigid b → IsTrue (known (arg_tree p.meaning X)) →
         IsTrue (known (arg_tree p.meaning Y)) → IsFaultOfTy a X Y e k →
         Related M q p (part_at (items_in r) (head_of a) i v) (arg_tree q.meaning X) (arg_tree q.meaning Y) tree (Err e) →
         RelatedForms M r p v a b answer (Err k)
@@ -255,7 +255,7 @@ module _ {Key Id Name : Type 0} {r q : State Key Id Name} (M : Manners) (v : Var
     }
 
   -- Memory ran out after some of the parts.
-  pub types_stopped : {X : Type 0} (tree : X → Tree) → IsFormed a → IsFormed b → AreOfOneForm a b →
+  pub types_stopped : {X : Type 0} (tree : X → Tree) → IsRigid a → IsRigid b → AreOfOneForm a b →
       Fronted M r q (head_of a) v i (direct_parts a) (direct_parts b) → RelatedForms {X = X} M r q v a b tree (Err Memory)
   unfolding passes_within
   types_stopped tree is_formed is_formed' o f = stopped M v a b tree
@@ -271,7 +271,7 @@ module _ {Key Id Name : Type 0} {r q : State Key Id Name} (M : Manners) (v : Var
       (λ k ha hb. f.built k (built_parts k a ha) (built_parts k b hb))
 
   -- All parts of two types were related, and so are the types.
-  types_relate : IsFormed a → (o : AreOfOneForm a b) → (f : Fronted M r q (head_of a) v i (direct_parts a) (direct_parts b)) →
+  types_relate : IsRigid a → (o : AreOfOneForm a b) → (f : Fronted M r q (head_of a) v i (direct_parts a) (direct_parts b)) →
       AreParts r.store (direct_parts a) (direct_parts b) → i ≡ count (direct_parts a) → i ≡ count (direct_parts b) →
       (w : Interpretation) (s : Assign) → Satisfies w q.store s →
       All (Holds (items_in r) w s) (r.goals ++ (f.passes).added) →
@@ -279,7 +279,7 @@ module _ {Key Id Name : Type 0} {r q : State Key Id Name} (M : Manners) (v : Var
   types_relate is_formed (over_parts {h} {ts} {us} d e n) f are ea eb w s sat all =
       let whole = fronted_all (head_of a) v i (direct_parts a) (direct_parts b) are ea eb f in
       subst₂ (λ x y. Rel (items_in r) w r.kept.environment (at v) (apply s x) (apply s y)) (sym d) (sym e)
-      (forms (related_head h (subst IsFormed d is_formed)) refl
+      (forms (related_head h (subst IsRigid d is_formed)) refl
       (subst (λ z. Rel (items_in r) w r.kept.environment (parts h 0 v) (apply s (direct_parts z)) (apply s us)) d
       (subst (λ z. Rel (items_in r) w r.kept.environment (parts h 0 v) (apply s (direct_parts a)) (apply s (direct_parts z))) e
       (subst (λ z. Rel (items_in r) w r.kept.environment (parts (head_of z) 0 v) (apply s (direct_parts a)) (apply s (direct_parts b))) d
@@ -296,7 +296,7 @@ module _ {Key Id Name : Type 0} {r q : State Key Id Name} (M : Manners) (v : Var
   types_relate is_formed (parameters d e p) f are ea eb w s sat all =
       subst₂ (λ x y. Rel (items_in r) w r.kept.environment (at v) (apply s x) (apply s y)) (sym d) (sym e) (atoms p)
 
-  pub types_related : {X : Type 0} (tree : X → Tree) (x : X) → IsFormed a → IsFormed b → AreOfOneForm a b →
+  pub types_related : {X : Type 0} (tree : X → Tree) (x : X) → IsRigid a → IsRigid b → AreOfOneForm a b →
       Fronted M r q (head_of a) v i (direct_parts a) (direct_parts b) → AreParts r.store (direct_parts a) (direct_parts b) →
       i ≡ count (direct_parts a) → i ≡ count (direct_parts b) → tree x ≡ a → IsTrue (known a) →
       RelatedForms M r q v a b tree (Ok x)
@@ -326,9 +326,9 @@ module _ {Key Id Name : Type 0} {r q : State Key Id Name} (M : Manners) (v : Var
     built = λ k ha hb. f.built k (built_parts k a ha) (built_parts k b hb);
     records = λ none. (
       λ promised bare. records_as (λ z w. form_asks (items_in r) v a b i none z ea eb o w)
-          (λ z w. asks_form (items_in r) v a b i none z ea eb o (λ h ts d. related_head h (subst IsFormed d is_formed)) w)
+          (λ z w. asks_form (items_in r) v a b i none z ea eb o (λ h ts d. related_head h (subst IsRigid d is_formed)) w)
           (f.records promised (bare_parts r.kept.settings a b bare)),
       λ promised. form_no_more r.kept.settings (items_in r) r.store q.store v a b i none are.left_list are.right_list ea eb
-          (λ h ts d. related_head h (subst IsFormed d is_formed)) o (f.no_more promised),
+          (λ h ts d. related_head h (subst IsRigid d is_formed)) o (f.no_more promised),
     );
   }

@@ -21,7 +21,7 @@ use Rattle.relation_semantics.specs.Errors.{AreOfOneConst, values, expressions, 
 use Rattle.relation_semantics.specs.Errors.{AreOfOneValue, one_value, as_many_branches}
 use Rattle.relation_semantics.specs.Stores.{Store}
 use Rattle.relation_semantics.specs.Outcomes.{Exact}
-use Rattle.relation_semantics.specs.Parts.{IsFormed, IsFormedConst, direct_parts, const_parts_of, head_of, const_head_of, branches_of}
+use Rattle.relation_semantics.specs.Parts.{IsRigid, IsFormedConst, direct_parts, const_parts_of, head_of, const_head_of, branches_of}
 use Rattle.relation_semantics.proofs.Erased.{forms_unify_by_parts}
 use Rattle.relation_steps.proofs.Fronts.{IsLookedAt}
 use Rattle.relation_semantics.proofs.Keeping.{unified_inside}
@@ -55,7 +55,7 @@ looked_at : (h : Head) → head_sort h ≡ type_sort → IsLookedAt h
 looked_at value_type e = absurd (cc)
 looked_at h e = tt
 
-pub formed_looked_at : (t : Tree) → IsFormed t → IsLookedAt (head_of t)
+pub formed_looked_at : (t : Tree) → IsRigid t → IsLookedAt (head_of t)
 formed_looked_at (node h ts) f = looked_at h f
 formed_looked_at t f = tt
 
@@ -109,7 +109,7 @@ alike_leaves x (bound k d i) f g e = absurd g
 alike_leaves x unknown f g e = absurd g
 
 -- Leaves that have a form.
-formed_leaf : (l : Leaf) → IsFormed (leaf l) → IsFixed l × (leaf_sort l ≡ region_sort → ⊥)
+formed_leaf : (l : Leaf) → IsRigid (leaf l) → IsFixed l × (leaf_sort l ≡ region_sort → ⊥)
 formed_leaf (atom x) f = (tt, λ r. absurd (let z = sym f ∙ r in cc))
 formed_leaf (placeholder k u n) f = (tt, λ r. absurd (let z = sym f ∙ r in cc))
 formed_leaf l f = absurd f
@@ -131,7 +131,7 @@ no_form s x h ts f e = let z = sym (leaf_erased s x f.0 f.1) ∙ e in absurd (cc
 pub one_head : (s : Assign) (h k : Head) (ts us : Tree) → Unifies s (node h ts) (node k us) → h ≡ k
 one_head s h k ts us e = cc
 
-alike_unified : (s : Assign) (a b : Tree) → IsFormed a → IsFormed b → Unifies s a b → AreAlike a b
+alike_unified : (s : Assign) (a b : Tree) → IsRigid a → IsRigid b → Unifies s a b → AreAlike a b
 alike_unified s (leaf x) (leaf y) f g e = ap leaf (unified_leaves s x y (formed_leaf x f) (formed_leaf y g) e)
 alike_unified s (leaf x) (node k us) f g e = absurd (no_form s x k us (formed_leaf x f) e)
 alike_unified s (node h ts) (leaf y) f g e = absurd (no_form s y h ts (formed_leaf y g) (sym e))
@@ -254,8 +254,8 @@ erased_sort (cons t ts) = refl
 
 module _ {Key Id Name : Type 0} (m : Meaning Key Id Name) where
   -- Types whose outermost forms differ are not unified.
-  pub forms_not_unified : (s : Assign) (x y : TyKey Key) (e : TypeError Key Id Name) → IsFormed (m.ty x) →
-      IsFormed (m.ty y) → IsTerm type_sort (m.ty x) → IsTerm type_sort (m.ty y) → FormError m x y e →
+  pub forms_not_unified : (s : Assign) (x y : TyKey Key) (e : TypeError Key Id Name) → IsRigid (m.ty x) →
+      IsRigid (m.ty y) → IsTerm type_sort (m.ty x) → IsTerm type_sort (m.ty y) → FormError m x y e →
       Unifies s (m.ty x) (m.ty y) → ⊥
   forms_not_unified s x y e f g k l (mutability {u} {v} {ts} {us} p q differ) z =
       differ (let h = one_head s (ref u) (ref v) ts us (subst₂ (Unifies s) p q z) in cc)
@@ -268,7 +268,7 @@ module _ {Key Id Name : Type 0} (m : Meaning Key Id Name) where
       differ (unified_counts s tuple ts us (m.ty x) (m.ty y) (λ h. absurd (cc)) p q
       (list_of tuple type_sort ts (m.ty x) p k) (list_of tuple type_sort us (m.ty y) q l) z)
   forms_not_unified s x y e f g k l (as_many {h} {ts} {us} p q o differ) z =
-      differ (unified_counts s h ts us (m.ty x) (m.ty y) (no_value_type h (subst IsFormed p f)) p q
+      differ (unified_counts s h ts us (m.ty x) (m.ty y) (no_value_type h (subst IsRigid p f)) p q
       (list_of h type_sort ts (m.ty x) p k) (list_of h type_sort us (m.ty y) q l) z)
   forms_not_unified s x y e f g k l (alias_arguments {k = i} {l = j} {d} {ts} {us} p q differ) z =
       differ (let h = one_head s (alias i d) (alias j d) ts us (subst₂ (Unifies s) p q z) in
@@ -294,17 +294,17 @@ pub erased_parameters : (x y : Atom) → (atom_sort x ≡ region_sort → ⊥) �
     plain_atom x ≡ plain_atom y → erase_atom x ≡ erase_atom y
 erased_parameters x y o l e = erased_plain x o ∙ e ∙ sym (erased_plain y l)
 
-pub types_unify : (a b : Tree) → IsFormed a → IsFormed b → (IsAlias a → ⊥) → AreOfOneForm a b → (s : Assign) →
+pub types_unify : (a b : Tree) → IsRigid a → IsRigid b → (IsAlias a → ⊥) → AreOfOneForm a b → (s : Assign) →
     Unifies s a b ↔ Unifies s (direct_parts a) (direct_parts b)
 types_unify a b f g o (over_aliases d e n) s = absurd (o (subst IsAlias (sym d) tt))
 types_unify a b f g o (over_parts {h} {ts} {us} d e n) s = subst₂
     (λ x y. Unifies s x y ↔ Unifies s (direct_parts x) (direct_parts y)) (sym d) (sym e)
-    (forms_unify_by_parts s h ts us (no_value_type h (subst IsFormed d f)))
+    (forms_unify_by_parts s h ts us (no_value_type h (subst IsRigid d f)))
 types_unify a b f g o (one_leaf {l} d e) s = subst₂ (λ x y. Unifies s x y ↔ Unifies s (direct_parts x) (direct_parts y))
     (sym d) (sym e) ((λ z. refl), (λ z. refl))
 types_unify a b f g o (parameters {x} {y} d e p) s =
-    let i = formed_leaf (atom x) (subst IsFormed d f) in
-    let j = formed_leaf (atom y) (subst IsFormed e g) in
+    let i = formed_leaf (atom x) (subst IsRigid d f) in
+    let j = formed_leaf (atom y) (subst IsRigid e g) in
     subst₂ (λ x y. Unifies s x y ↔ Unifies s (direct_parts x) (direct_parts y)) (sym d) (sym e)
     ((λ z. refl), (λ z. ap (λ z. leaf (atom z)) (erased_parameters x y i.1 j.1 p)))
 

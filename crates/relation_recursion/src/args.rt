@@ -53,7 +53,7 @@ fn make_args<I: Interner, R: TypeRelation<I>>(
     ensures means { let m = (R.state r.old).meaning in
         IfOk result (λ k. (R.state r.new).meaning.args k ≡ list_tree (arg_tree m) args.now) }
 {
-    r.interner_grows();
+    r.lemma_interner_grows();
     let made = r.cx_mut().mk_args(args)?;
     Ok(made)
 }
@@ -145,7 +145,7 @@ fn make_over<
     ensures means { let m = (R.state r.old).meaning in
         IfOk result (λ k. (R.state r.new).meaning.ty k ≡ node (head_of (m.ty _form.now)) (m.args args)) }
 {
-    r.interner_grows();
+    r.lemma_interner_grows();
     let made = mk(r.cx_mut(), args)?;
     Ok(made)
 }

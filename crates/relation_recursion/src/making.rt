@@ -10,7 +10,7 @@ ghost use Rattle.relation_steps.specs.Keyed.{MakesTyOver, MakesConstOver, MakesP
 
 use relation_folds::error::RelateResult;
 use relation_steps::type_relation::TypeRelation;
-use relation_terms::terms::parts::{of_arg, the_const, the_ty, the_valtree, with_parts};
+use relation_terms::terms::parts::{expect_const, expect_ty, expect_valtree, of_arg, with_parts};
 use relation_terms::terms::{
     Const, ConstKind, GenericArg, GenericArgKind, Interner, OutOfMemory, Part, PartOf, Ty,
 };
@@ -43,7 +43,7 @@ fn ty_with_parts<I: Interner>(
 {
     let parts = as_parts(args, cx.alloc())?;
     let made = with_parts(cx, &Part::Ty(*ty), parts.as_slice())?;
-    Ok(the_ty(&made))
+    Ok(expect_ty(&made))
 }
 
 // The constant of that one's form over these parts, which are of the kinds of its own.
@@ -61,11 +61,11 @@ fn const_with_parts<I: Interner>(
     match cx.const_kind(constant) {
         ConstKind::Value(ty, value) => {
             let value = with_parts(cx, &Part::ValTree(value), parts.as_slice())?;
-            cx.mk_const(ConstKind::Value(ty, the_valtree(&value)))
+            cx.mk_const(ConstKind::Value(ty, expect_valtree(&value)))
         }
         _ => {
             let made = with_parts(cx, &Part::Const(*constant), parts.as_slice())?;
-            Ok(the_const(&made))
+            Ok(expect_const(&made))
         }
     }
 }
@@ -100,7 +100,7 @@ pub(crate) fn make_ty<I: Interner, R: TypeRelation<I>>(
     ensures fault { OnlyMemory result }
     ensures made { MakesTyOver (R.state r.old).meaning (R.state r.new).meaning ty.now parts.now result }
 {
-    r.interner_grows();
+    r.lemma_interner_grows();
     let made = ty_with_parts(r.cx_mut(), ty, parts)?;
     Ok(made)
 }
@@ -119,7 +119,7 @@ pub(crate) fn make_const<I: Interner, R: TypeRelation<I>>(
     ensures fault { OnlyMemory result }
     ensures made { MakesConstOver (R.state r.old).meaning (R.state r.new).meaning constant.now parts.now result }
 {
-    r.interner_grows();
+    r.lemma_interner_grows();
     let made = const_with_parts(r.cx_mut(), constant, parts)?;
     Ok(made)
 }
@@ -140,7 +140,7 @@ pub(crate) fn make_part<I: Interner, R: TypeRelation<I>>(
     ensures made { MakesPartOver (R.state r.old).meaning (R.state r.new).meaning term.now parts.now result }
     ensures sort { IfOk result (λ p. part_sort p ≡ part_sort term.now) }
 {
-    r.interner_grows();
+    r.lemma_interner_grows();
     let made = term_with_parts(r.cx_mut(), term, parts)?;
     Ok(made)
 }

@@ -8,7 +8,7 @@ ghost use Rattle.relation_terms.specs.declared.terms.part_kind.Part.TheVariants.
 ghost use Rattle.relation_semantics.specs.Parts.{direct_parts, const_parts_of, IsByParts, IsArgPart, IsBinderPart};
 ghost use Rattle.relation_recursion.specs.declared.parts.PartKind.TheVariants.{Argument, Binder};
 
-use relation_terms::terms::parts::{member, member_count, the_arg, ty_parts};
+use relation_terms::terms::parts::{expect_arg, member, member_count, ty_parts};
 use relation_terms::terms::{
     Const, ConstKind, ExistentialPredicatesKey, GenericArg, Interner, Part, PartOf, PartsOf, Ty,
     TyForm, TyKind, parts,
@@ -43,7 +43,7 @@ pub(crate) fn kind_of_part<X: Copy, D: Copy>(part: &Part<X, D>) -> PartKind
 }
 
 // The list of the predicates of a trait object that a part is.
-pub(crate) fn the_object<X: Copy, D: Copy>(part: &Part<X, D>) -> ExistentialPredicatesKey<X>
+pub(crate) fn expect_object<X: Copy, D: Copy>(part: &Part<X, D>) -> ExistentialPredicatesKey<X>
     requires { part_sort part.now ≡ object_sort }
     ensures { ObjectPart result ≡ part.now }
 {
@@ -104,7 +104,7 @@ pub(crate) fn part<I: Interner>(cx: &I, ty: &Ty<I>, i: usize) -> GenericArg<I>
     ensures sure { IsTrue (known (arg_tree (I.meaning cx.now) result)) }
     ensures means { arg_tree (I.meaning cx.now) result ≡ nth i (direct_parts ((I.meaning cx.now).ty ty.now)) }
 {
-    the_arg(&member(cx, &parts_in(cx, ty, &cx.ty_kind(ty)), i))
+    expect_arg(&member(cx, &parts_in(cx, ty, &cx.ty_kind(ty)), i))
 }
 
 // The term whose parts are those of a constant that are related: of a value its value tree, and not its type.
@@ -136,7 +136,7 @@ pub(crate) fn const_part<I: Interner>(cx: &I, constant: &Const<I>, i: usize) -> 
     ensures sure { IsTrue (known (arg_tree (I.meaning cx.now) result)) }
     ensures means { let m = I.meaning cx.now in arg_tree m result ≡ nth i (const_parts_of (m.const_ constant.now)) }
 {
-    the_arg(&parts::part(cx, &related_part(cx, constant), i))
+    expect_arg(&parts::part(cx, &related_part(cx, constant), i))
 }
 
 // How many parts a term has that is related by its parts.

@@ -187,7 +187,7 @@ pub(crate) fn note_declared<I: Interner, R: TypeRelation<I>>(
     if r.item_variances(def_id).is_none() {
         return Ok(());
     }
-    r.ty_args_done(a, b, def_id, a_args, b_args)
+    r.note_ty_args(a, b, def_id, a_args, b_args)
 }
 
 // The same of two types, if they are over an item whose arguments have declared variances.

@@ -7,7 +7,7 @@ ghost use Rattle.term_enums.specs.Variances.{xform};
 ghost use Rattle.relation_terms.specs.Heads.{object};
 ghost use Rattle.relation_terms.specs.Meaning.{arg_tree, signature_tree, existential_tree};
 ghost use Rattle.relation_terms.specs.Parts.{part_tree, part_sort};
-ghost use Rattle.relation_semantics.specs.Parts.{IsFormed, IsFormedConst, IsByParts, IsRelatedPart, IsComparedPart};
+ghost use Rattle.relation_semantics.specs.Parts.{IsRigid, IsFormedConst, IsByParts, IsRelatedPart, IsComparedPart};
 ghost use Rattle.relation_semantics.specs.Parts.{IsBinderPart, ArePaired};
 ghost use Rattle.relation_semantics.specs.Making.{arg_sort};
 ghost use Rattle.relation_steps.specs.Arguments.{IsSkipped};
@@ -20,7 +20,7 @@ ghost use Rattle.relation_steps.specs.Terms.{TermsRegister};
 use crate::keeping::{keep_answer, keep_const_answer, keep_term_answer, no_answers};
 use crate::making::{make_const, make_part, make_ty};
 use crate::opening::{is_same_of, open_bodies};
-use crate::parts::{PartKind, kind_of_part, the_object};
+use crate::parts::{PartKind, expect_object, kind_of_part};
 use crate::reading::{
     compare_consts_of, compare_members_of, compare_parts_of, const_part_of, const_parts_count_of,
     is_error_const_of, named_place_of, note_args, part_of, start_of, term_part_of,
@@ -32,7 +32,7 @@ use relation_semantics::relate::Step;
 use relation_steps::type_relation::TypeRelation;
 use relation_terms::predicate::ExistentialPredicate;
 use relation_terms::terms::parts::{
-    of_arg, the_arg, the_existential, the_pat, the_signature, the_ty,
+    expect_arg, expect_existential, expect_pat, expect_signature, expect_ty, of_arg,
 };
 use relation_terms::terms::{
     Const, ExistentialPredicates, FnSig, GenericArg, GenericArgKind, Interner, Part, PartOf, Pat,
@@ -66,7 +66,7 @@ pub fn tys<I: Interner, R: TypeRelation<I>>(
         Step::Done(answer) => Ok(answer),
         Step::Parts { a, b } => {
             let answer = structurally_relate_tys(r, &a, &b)?;
-            r.tys_done(&a, &b)?;
+            r.note_tys(&a, &b)?;
             Ok(answer)
         }
         Step::Again {
@@ -78,7 +78,7 @@ pub fn tys<I: Interner, R: TypeRelation<I>>(
             answer,
         } => {
             relate_again(r, variance, &GenericArgKind::Ty(x), &GenericArgKind::Ty(y))?;
-            r.tys_done(&a, &b)?;
+            r.note_tys(&a, &b)?;
             Ok(answer)
         }
     }
@@ -219,8 +219,8 @@ pub fn structurally_relate_tys<I: Interner, R: TypeRelation<I>>(
     requires lawful { (R.state r.old).lawful }
     requires decides { (R.state r.old).ambient ≢ Bivariant }
     requires asked { AskedTerms R.manner None (λ m. m.ty) (R.state r.old) a.now b.now }
-    requires a_formed { IsFormed ((R.state r.old).meaning.ty a.now) }
-    requires b_formed { IsFormed ((R.state r.old).meaning.ty b.now) }
+    requires a_formed { IsRigid ((R.state r.old).meaning.ty a.now) }
+    requires b_formed { IsRigid ((R.state r.old).meaning.ty b.now) }
     ensures related { RelatedTermForms R.manner None (λ m. m.ty) (R.state r.old) (R.state r.new) a.now b.now result }
     ensures asks { TysAskOpen R.manner (R.state r.old) (R.state r.new) a.now b.now result }
 {
@@ -235,7 +235,7 @@ pub fn structurally_relate_tys<I: Interner, R: TypeRelation<I>>(
     }
     let in_order = start.in_order;
     if in_order {
-        return Ok(the_ty(&relate_in_order(r, &Part::Ty(*a), &Part::Ty(*b))?));
+        return Ok(expect_ty(&relate_in_order(r, &Part::Ty(*a), &Part::Ty(*b))?));
     }
     let n = start.count;
     let mut answers = no_answers::<I, R, GenericArg<I>>(r);
@@ -310,7 +310,7 @@ pub fn pats<I: Interner, R: TypeRelation<I>>(
     requires asked { AskedTerms R.manner None (λ m. m.pat) (R.state r.old) a.now b.now }
     ensures { RelatedTerms R.manner None (λ m. m.pat) (R.state r.old) (R.state r.new) a.now b.now result }
 {
-    Ok(the_pat(&relate_parts(r, &Part::Pat(*a), &Part::Pat(*b))?))
+    Ok(expect_pat(&relate_parts(r, &Part::Pat(*a), &Part::Pat(*b))?))
 }
 
 /// Relates two signatures at the ambient variance, and answers the left one's header over what its types answered: the
@@ -329,7 +329,7 @@ pub fn signatures<I: Interner, R: TypeRelation<I>>(
     requires asked { AskedTerms R.manner None signature_tree (R.state r.old) a.now b.now }
     ensures { RelatedTerms R.manner None signature_tree (R.state r.old) (R.state r.new) a.now b.now result }
 {
-    Ok(the_signature(&relate_parts(r, &Part::Signature(*a), &Part::Signature(*b))?))
+    Ok(expect_signature(&relate_parts(r, &Part::Signature(*a), &Part::Signature(*b))?))
 }
 
 /// Relates two predicates of trait objects at the ambient variance, and answers the left one's form over what its parts
@@ -349,7 +349,7 @@ pub fn existentials<I: Interner, R: TypeRelation<I>>(
     ensures related { RelatedTerms R.manner None existential_tree (R.state r.old) (R.state r.new) a.now b.now result }
     ensures form { IfOk result (λ p. predicate_form p ≡ predicate_form a.now) }
 {
-    Ok(the_existential(&relate_parts(r, &Part::Existential(*a), &Part::Existential(*b))?))
+    Ok(expect_existential(&relate_parts(r, &Part::Existential(*a), &Part::Existential(*b))?))
 }
 
 /// Relates two lists of predicates of trait objects at the ambient variance, as the form over them: pair by pair, as
@@ -368,7 +368,7 @@ pub fn objects<I: Interner, R: TypeRelation<I>>(
     requires asked { AskedTerms R.manner (Some object) object_members (R.state r.old) a.now b.now }
     ensures { RelatedTerms R.manner (Some object) object_members (R.state r.old) (R.state r.new) a.now b.now result }
 {
-    Ok(the_object(&relate_parts(r, &Part::Object(*a), &Part::Object(*b))?))
+    Ok(expect_object(&relate_parts(r, &Part::Object(*a), &Part::Object(*b))?))
 }
 
 // Relates two terms of one form by their parts, in order, each at the variance of its place, and answers the form over
@@ -451,7 +451,7 @@ fn relate_parts<I: Interner, R: TypeRelation<I>>(
 {
     match kind_of_part(a) {
         PartKind::Argument => {
-            let answer = relate_again(r, Variance::Covariant, &the_arg(a), &the_arg(b))?;
+            let answer = relate_again(r, Variance::Covariant, &expect_arg(a), &expect_arg(b))?;
             Ok(of_arg(&answer))
         }
         PartKind::Binder => binders(r, a, b),

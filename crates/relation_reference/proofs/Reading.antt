@@ -20,7 +20,7 @@ use Rattle.relation_semantics.specs.Stores.{Store, unbound, same_as, bound_to, e
 use Rattle.relation_semantics.specs.Steps.{LeadsTo, here, next}
 use Rattle.relation_semantics.specs.Errors.{IsReadAs, itself, by_class, by_binding}
 use Rattle.relation_semantics.specs.Bound.{IsWellBound}
-use Rattle.relation_semantics.specs.Parts.{IsFormed, IsFormedConst}
+use Rattle.relation_semantics.specs.Parts.{IsRigid, IsFormedConst}
 use Rattle.relation_semantics.proofs.Standing.{made_of_term, term_context}
 use Rattle.relation_semantics.proofs.Classes.{class_made}
 use Rattle.variable_tables.specs.declared.inner.Variable.{Variable}
@@ -107,7 +107,7 @@ module _ {Key Id Name : Type 0} (m : Meaning Key Id Name) (x : InferCtxtInner Ke
   found_by_lists (found_root r d e q) = subst IsWellBound (sym q) tt
   found_by_lists (found_term r d e) = may_by_lists k u (l.formed k r u e)
 
-  pub found_shallow : (MayBeBoundTo k u → IsFormed u) → Found its_store k n u → IsShallow its_store u
+  pub found_shallow : (MayBeBoundTo k u → IsRigid u) → Found its_store k n u → IsShallow its_store u
   found_shallow f (found_root r d e q) = root k r q (ap (entry_term k) e)
   found_shallow f (found_term r d e) = formed (f (l.formed k r u e))
 

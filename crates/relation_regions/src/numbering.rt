@@ -32,7 +32,7 @@ impl<X: Copy + Eq + Hash> Regions<X> {
         ensures adds { OnOk result (AddsRegion (λ k l. X.eq k.0 l.0) region standing
             self.old.table self.old.standings.items self.new.table self.new.standings.items) }
     {
-        let number = self.table.add(region)? as usize;
+        let number = self.table.intern(region)? as usize;
         if number < self.standings.len() {
             return Ok(number);
         }

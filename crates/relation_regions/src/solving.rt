@@ -150,7 +150,7 @@ fn make_static<C: InferCtxtLike>(ctx: &mut C) -> Result<Region<C::Interner>, Out
     ensures marks { KeepsMarks (C.state ctx.old) (C.state ctx.new) }
     ensures is_static { IfOk result (λ r. ((C.state ctx.new).meaning).region r ≡ static) }
 {
-    ctx.interner_grows();
+    ctx.lemma_interner_grows();
     ctx.cx_mut().mk_region(RegionKind::ReStatic)
 }
 

@@ -9,7 +9,7 @@ use Rattle.relation_semantics.specs.Relation.{IsAlias, Items}
 use Rattle.relation_semantics.specs.Stores.{Store, Entry, unbound, same_as, bound_to, entry_of, entry_term, bound_term}
 use Rattle.relation_semantics.specs.Steps.{LeadsTo, here, next}
 use Rattle.relation_semantics.specs.Generalising.{Stage, Side, any_part, Turn, gives_way_to, Generalised, met_before, met_first, no_type, stays, gives_way, alias_gives_way, by_parts, in_binder, no_parts, next_part}
-use Rattle.relation_semantics.specs.Parts.{IsFormed}
+use Rattle.relation_semantics.specs.Parts.{IsRigid}
 use Rattle.relation_semantics.specs.Errors.{IsReadAs, itself, by_class, by_binding}
 use Rattle.relation_semantics.specs.Resolving.{IsShallow, root, stays_bound, formed}
 use Rattle.relation_semantics.specs.Measures.{grown}
@@ -38,7 +38,7 @@ free_entry st k n e = go (entry_of st k n) refl
 pub shallow_free : (st : Store) (k : VarKind) (n : ℕ) (y : Tree) → y ≡ leaf (variable k n) → IsShallow st y → entry_of st k n ≡ unbound
 shallow_free st k n y e (root j m d o) = let p : leaf (variable j m) ≡ leaf (variable k n) = sym d ∙ e in let a : j ≡ k = cc in let b : m ≡ n = cc in free_entry st k n (ap₂ (bound_term st) (sym a) (sym b) ∙ o)
 shallow_free st k n y e (stays_bound q d i p) = absurd (cc (e, p))
-shallow_free st k n y e (formed h) = absurd (subst IsFormed e h)
+shallow_free st k n y e (formed h) = absurd (subst IsRigid e h)
 
 root_read : (st : Store) (k : VarKind) (n r : ℕ) (z y : Tree) → LeadsTo st k n r → ((p : ℕ) → entry_of st k r ≡ same_as p → ⊥) → z ≡ leaf (variable k n) → IsReadAs st z y → IsShallow st y → RootRead st k r y
 root_read st k n r z y l o q (itself e) s = let free = shallow_free st k n y (sym e ∙ q) s in
@@ -71,8 +71,8 @@ read_shallow st x y (stays_bound q d i e) (itself p) s = p
 read_shallow st x y (stays_bound q d i e) (by_class k n m p c r) s = absurd (cc (e, p))
 read_shallow st x y (stays_bound q d i e) (by_binding k n p b r) s = absurd (cc (e, p))
 read_shallow st x y (formed h) (itself p) s = p
-read_shallow st x y (formed h) (by_class k n m p c r) s = absurd (subst IsFormed p h)
-read_shallow st x y (formed h) (by_binding k n p b r) s = absurd (subst IsFormed p h)
+read_shallow st x y (formed h) (by_class k n m p c r) s = absurd (subst IsRigid p h)
+read_shallow st x y (formed h) (by_binding k n p b r) s = absurd (subst IsRigid p h)
 
 -- A type is read at once as one type alone.
 pub reads_once : (st : Store) (t x y : Tree) → IsReadAs st t x → IsReadAs st t y → IsShallow st x → IsShallow st y → x ≡ y

@@ -9,7 +9,7 @@ use Rattle.relation_terms.specs.Heads.{Head, unevaluated, expression, value, val
 use Rattle.relation_terms.specs.Trees.{Tree, leaf, node, bind, nil, cons, Assign, apply, known, count, nth, IsList}
 use Rattle.relation_semantics.specs.Relation.{Interpretation, at, parts, part_at, IsRelatedHead, Rel, same, forms, no_parts, next_part}
 use Rattle.relation_semantics.specs.Goals.{Holds, Relates}
-use Rattle.relation_semantics.specs.Parts.{IsFormed, direct_parts, head_of, const_parts_of, const_head_of}
+use Rattle.relation_semantics.specs.Parts.{IsRigid, direct_parts, head_of, const_parts_of, const_head_of}
 use Rattle.relation_semantics.specs.Making.{form_over, const_over}
 use Rattle.relation_semantics.specs.Stores.{Satisfies}
 use Rattle.relation_semantics.specs.Lawful.{Kept, State, Manners, MayAnswer, Passes, declared_by, items_in, items_of}
@@ -167,7 +167,7 @@ module _ {Key Id Name : Type 0} (M : Manners) where
       AnswersParts M q h v ts us → MayAnswer M q v (node h ts) (node h us)
   may_form q h v ts us is a = record { related = λ w s sat all. forms is refl (a.related w s sat all) }
 
-  pub may_over : (q : State Key Id Name) (v : Variance) (t us : Tree) → IsFormed t →
+  pub may_over : (q : State Key Id Name) (v : Variance) (t us : Tree) → IsRigid t →
       AnswersParts M q (head_of t) v (direct_parts t) us → MayAnswer M q v t (form_over t us)
   may_over q v (node h ts) us is a = may_form q h v ts us (related_head h is) a
   may_over q v (leaf l) us is a = may_itself M q v (leaf l)

@@ -21,7 +21,7 @@ use Rattle.relation_semantics.specs.Measures.{Goes}
 use Rattle.relation_semantics.specs.Outcomes.{Exact, NoEqualTerms, NoUnifier}
 use Rattle.relation_semantics.specs.Settings.{Settings}
 use Rattle.relation_semantics.specs.Errors.{by_forms, ErrorOf, IsDeferred, HaveNoError, AreAlike, AreBindable, IsVariableFor, of_forms, sorts}
-use Rattle.relation_semantics.specs.Parts.{IsFormed}
+use Rattle.relation_semantics.specs.Parts.{IsRigid}
 use Rattle.relation_terms.proofs.Members.{type_only}
 use Rattle.relation_semantics.proofs.Full.{full_by, written_plain}
 use Rattle.relation_semantics.proofs.Standing.{itself_stands}
@@ -375,7 +375,7 @@ no_type_variable st g (cons t ts) f o n e = f
 
 -- A type that is no variable and no bound one is of a form.
 pub type_is_formed : (t : Tree) → IsTerm type_sort t → StaysWithin 0 t →
-    ((k : VarKind) (n : ℕ) → t ≢ leaf (variable k n)) → IsFormed t
+    ((k : VarKind) (n : ℕ) → t ≢ leaf (variable k n)) → IsRigid t
 type_is_formed (leaf (variable k n)) s w o = absurd (o k n refl)
 type_is_formed (leaf (bound k d i)) s w o = absurd (omega (arith, w))
 type_is_formed (leaf (placeholder k u n)) s w o = type_only (bound_sort k) s

@@ -11,11 +11,11 @@ use Rattle.relation_terms.specs.declared.terms.part_kind.Part.TheVariants.{Binde
 use Rattle.relation_terms.specs.Parts.{part_sort}
 
 -- A type with an outermost form: no variable and no bound variable.
-abbrev pub IsFormed : Tree → Type 0
-IsFormed (leaf (atom x)) = atom_sort x ≡ type_sort
-IsFormed (leaf (placeholder k u n)) = leaf_sort (placeholder k u n) ≡ type_sort
-IsFormed (node h ts) = head_sort h ≡ type_sort
-IsFormed t = ⊥
+abbrev pub IsRigid : Tree → Type 0
+IsRigid (leaf (atom x)) = atom_sort x ≡ type_sort
+IsRigid (leaf (placeholder k u n)) = leaf_sort (placeholder k u n) ≡ type_sort
+IsRigid (node h ts) = head_sort h ≡ type_sort
+IsRigid t = ⊥
 
 -- A constant with an outermost form: a parameter, a placeholder, an error, a value, an item's or an expression's.
 abbrev pub IsFormedConst : Tree → Type 0

@@ -3,7 +3,7 @@ use Rattle.std.specs.Prelude.{◌≡◌, ℕ, None}
 use Rattle.relation_terms.specs.Heads.{VarKind, type_var, const_var, BoundKind, variable, bound}
 use Rattle.relation_terms.specs.Trees.{Tree, leaf}
 use Rattle.relation_semantics.specs.Stores.{Store, same_as, entry_of, bound_term}
-use Rattle.relation_semantics.specs.Parts.{IsFormed}
+use Rattle.relation_semantics.specs.Parts.{IsRigid}
 
 -- The variable's entry leads to no other.
 abbrev pub IsRoot : Store → VarKind → ℕ → Type 0
@@ -13,7 +13,7 @@ IsRoot st k n = (p : ℕ) → entry_of st k n ≡ same_as p → ⊥
 pub data IsShallow (st : Store) (t : Tree) : Type 0 where
   root : (k : VarKind) (n : ℕ) → t ≡ leaf (variable k n) → bound_term st k n ≡ None → IsShallow st t
   stays_bound : (k : BoundKind) (d i : ℕ) → t ≡ leaf (bound k d i) → IsShallow st t
-  formed : IsFormed t → IsShallow st t
+  formed : IsRigid t → IsShallow st t
 
 -- What a type variable is found to be: a variable that has no term, or no type variable.
 pub data IsShallowTy (st : Store) (t : Tree) : Type 0 where

@@ -108,7 +108,7 @@ pub trait InferCtxtLike {
         ensures value { Self.Interner.meaning result.now ≡ (state self.old).meaning };
 
     /// Does nothing: it shows that making terms changes nothing of the context but what its interner knows.
-    fn interner_grows(&self)
+    fn lemma_interner_grows(&self)
         ensures { OnlyLearns Self.Interner.meaning state with_interner self.now };
 
     /// Whether the next trait solver is on, as it is everywhere but in parts of the compiler.

@@ -4,7 +4,7 @@ ghost use Rattle.std.specs.Prelude.{None, cond, nat_eq, option_map, slice_get};
 ghost use Rattle.relation_terms.specs.Trees.{known};
 ghost use Rattle.relation_terms.specs.Meaning.{Extends, arg_tree};
 ghost use Rattle.relation_terms.specs.Owned.{bound_tree};
-ghost use Rattle.relation_folds.specs.Shifts.{the_ty, the_region, the_const};
+ghost use Rattle.relation_folds.specs.Shifts.{expect_ty, expect_region, expect_const};
 ghost use Rattle.relation_statements.specs.Stated.{member, Instantiates, Joins};
 
 use relation_folds::fold::{Fold, TypeFoldable, TypeFolder, shift_vars};
@@ -81,7 +81,7 @@ fn member_at<X: Copy>(args: &[GenericArgKind<X>], index: u32) -> Option<GenericA
 }
 
 fn as_ty<X: Copy>(arg: Option<GenericArgKind<X>>) -> Option<TyKey<X>>
-    ensures { result ≡ the_ty arg }
+    ensures { result ≡ expect_ty arg }
 {
     match arg? {
         GenericArgKind::Ty(ty) => Some(ty),
@@ -90,7 +90,7 @@ fn as_ty<X: Copy>(arg: Option<GenericArgKind<X>>) -> Option<TyKey<X>>
 }
 
 fn as_region<X: Copy>(arg: Option<GenericArgKind<X>>) -> Option<RegionKey<X>>
-    ensures { result ≡ the_region arg }
+    ensures { result ≡ expect_region arg }
 {
     match arg? {
         GenericArgKind::Lifetime(region) => Some(region),
@@ -99,7 +99,7 @@ fn as_region<X: Copy>(arg: Option<GenericArgKind<X>>) -> Option<RegionKey<X>>
 }
 
 fn as_const<X: Copy>(arg: Option<GenericArgKind<X>>) -> Option<ConstKey<X>>
-    ensures { result ≡ the_const arg }
+    ensures { result ≡ expect_const arg }
 {
     match arg? {
         GenericArgKind::Const(constant) => Some(constant),

@@ -22,7 +22,7 @@ use Rattle.relation_semantics.specs.AskedAlone.{AsksNoneAlone}
 use Rattle.relation_semantics.specs.Constraints.{constraint_at, asked_constraints}
 use Rattle.relation_semantics.specs.Lawful.{State, Manners, Related, Shown, Stepped, StepRecords, Noted, items_in}
 use Rattle.relation_semantics.specs.Making.{Made, form_over, const_over}
-use Rattle.relation_semantics.specs.Parts.{IsFormed, IsFormedConst, head_of, const_head_of}
+use Rattle.relation_semantics.specs.Parts.{IsRigid, IsFormedConst, head_of, const_head_of}
 use Rattle.relation_semantics.specs.Relation.{plain, part_at}
 use Rattle.relation_steps.specs.Alone.{StepsAtOnce}
 use Rattle.relation_steps.specs.Bivariance.{HasAskedOpen}
@@ -77,7 +77,7 @@ module _ {Key Id Name : Type 0} where
   abbrev pub SteppedTys : Manners → State Key Id Name → State Key Id Name → TyKey Key → TyKey Key →
       Result (Step (TyKey Key)) (RelateFault Key Id Name) → Type 0
   SteppedTys M r q a b result =
-      Stepped M IsFormed r q ((r.meaning).ty a) ((r.meaning).ty b) (q.meaning).ty result
+      Stepped M IsRigid r q ((r.meaning).ty a) ((r.meaning).ty b) (q.meaning).ty result
 
   abbrev pub SteppedConsts : Manners → State Key Id Name → State Key Id Name → ConstKey Key → ConstKey Key →
       Result (Step (ConstKey Key)) (RelateFault Key Id Name) → Type 0

@@ -54,7 +54,7 @@ pub trait TypeRelation<I: Interner>: HasState<I> {
         ensures value { I.meaning result.now ≡ (Self.state self.old).meaning };
 
     /// Does nothing: it shows that making terms changes nothing of the relation but what its interner knows.
-    fn interner_grows(&self)
+    fn lemma_interner_grows(&self)
         ensures { FollowsInterner I.meaning Self.state with_interner self.now };
 
     /// The variance at which terms are related.
@@ -121,7 +121,7 @@ pub trait TypeRelation<I: Interner>: HasState<I> {
         ensures { OpenedBinders manner T.tree (Self.state self.old) (Self.state self.new) round a.now b.now result };
 
     /// Takes note that two types, as `tys` read them, were related. No goal is asked of them alone.
-    fn tys_done(&mut self, a: &Ty<I>, b: &Ty<I>) -> RelateResult<I, ()>
+    fn note_tys(&mut self, a: &Ty<I>, b: &Ty<I>) -> RelateResult<I, ()>
         requires lawful { (Self.state self.old).lawful }
         requires decides { (Self.state self.old).ambient ≢ Bivariant }
         requires asked { AskedTerms manner None (λ m. m.ty) (Self.state self.old) a.now b.now }
@@ -131,7 +131,7 @@ pub trait TypeRelation<I: Interner>: HasState<I> {
 
     /// Takes note that the arguments of two types over one item were related at the variances that it declares, and so
     /// the types. The lists are theirs.
-    fn ty_args_done(
+    fn note_ty_args(
         &mut self,
         a_ty: &Ty<I>,
         b_ty: &Ty<I>,

@@ -33,7 +33,7 @@ fn make_char<C: InferCtxtLike>(ctx: &mut C) -> Result<Ty<C::Interner>, OutOfMemo
     ensures store { (C.state ctx.new).store ≡ (C.state ctx.old).store }
     ensures is { IfOk result (λ k. ((C.state ctx.new).meaning).ty k ≡ leaf (atom char_type)) }
 {
-    ctx.interner_grows();
+    ctx.lemma_interner_grows();
     ctx.cx_mut().mk_ty(TyKind::Char)
 }
 
@@ -115,7 +115,7 @@ fn make_slice<C: InferCtxtLike>(
     ensures is { let t = ((C.state ctx.old).meaning).ty element.now in
         IfOk result (λ k. ((C.state ctx.new).meaning).ty k ≡ node slice (cons t nil)) }
 {
-    ctx.interner_grows();
+    ctx.lemma_interner_grows();
     ctx.cx_mut().mk_ty(TyKind::Slice(*element))
 }
 
@@ -204,7 +204,7 @@ fn make_region<C: InferCtxtLike>(
     ensures is { let m = (C.state ctx.old).meaning in
         IfOk result (λ k. ((C.state ctx.new).meaning).region k ≡ region_tree m kind) }
 {
-    ctx.interner_grows();
+    ctx.lemma_interner_grows();
     ctx.cx_mut().mk_region(kind)
 }
 

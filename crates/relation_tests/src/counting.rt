@@ -38,8 +38,8 @@ impl<Infcx: InferCtxtLike, R: PredicateEmittingRelation<Infcx>> PredicateEmittin
         self.inner.infcx_mut()
     }
 
-    fn context_grows(&self) {
-        self.inner.context_grows();
+    fn lemma_context_grows(&self) {
+        self.inner.lemma_context_grows();
     }
 
     fn span(&self) -> Span<Infcx::Interner> {

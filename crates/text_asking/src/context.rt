@@ -63,7 +63,7 @@ fn typing_mode<I: Interner>(mode: Mode, no_ids: LocalDefIds<I>) -> TypingMode<I:
 }
 
 // A new context over the interner of another one.
-pub(super) fn renewed<I: Interner>(
+pub(super) fn reset<I: Interner>(
     ctx: RefCtxt<I>,
     no_ids: LocalDefIds<I>,
     setup: Setup,
@@ -75,7 +75,7 @@ pub(super) fn renewed<I: Interner>(
     ensures sets_up { IsSetUp result.inner no_ids setup }
 {
     let mode = typing_mode::<I>(setup.mode, no_ids);
-    ctx.renewed(mode, setup.next_solver, budget)
+    ctx.reset(mode, setup.next_solver, budget)
 }
 
 // All kinds of variables.

@@ -164,7 +164,7 @@ fn fit_if<I: Interner>(
 {
     match term {
         Some(term) if is_related => {
-            let mut fresh = ctx.renewed(TypingMode::PostAnalysis, true, BUDGET);
+            let mut fresh = ctx.reset(TypingMode::PostAnalysis, true, BUDGET);
             match fit_of(&mut fresh, term) {
                 Ok(fit) => (fresh, Some(fit)),
                 Err(_) => (fresh, None),

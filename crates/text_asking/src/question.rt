@@ -10,7 +10,7 @@ ghost use Rattle.text_asking.specs.Fits.{AllFit, IsFit};
 
 use crate::BUDGET;
 use crate::coherence::{ask_impls_overlap, ask_methods};
-use crate::context::{NotAsked, have_all_stated, may_ask, relate, renewed};
+use crate::context::{NotAsked, have_all_stated, may_ask, relate, reset};
 use crate::elaborating::{ask_elaborated, ask_supertrait_ids, ask_supertraits, told};
 use crate::environment::environment_for;
 use crate::fits::{Fit, fit_at};
@@ -166,7 +166,7 @@ pub(super) fn context_for<I: Interner>(
     if question.then {
         return ctx;
     }
-    renewed(ctx, terms.no_ids, question.setup, budget_of(question))
+    reset(ctx, terms.no_ids, question.setup, budget_of(question))
 }
 
 // The type of that number.
@@ -462,7 +462,7 @@ fn ask_often<I: SizedKeys>(
     let mut ctx = ctx;
     let mut outcome = ask_in(&mut ctx, terms, question);
     for _ in 1..question.repeat {
-        ctx = renewed(ctx, terms.no_ids, question.setup, budget_of(question));
+        ctx = reset(ctx, terms.no_ids, question.setup, budget_of(question));
         outcome = ask_in(&mut ctx, terms, question);
     }
     (ctx, outcome)

@@ -6,7 +6,7 @@ use Rattle.relation_terms.specs.Meaning.{Meaning}
 use Rattle.relation_semantics.specs.Stores.{Store, entry_of, same_as, bound_to, IsSound}
 use Rattle.relation_semantics.specs.Generalising.{NumbersNameNothing}
 use Rattle.relation_semantics.specs.Constraints.{constraint_of}
-use Rattle.relation_semantics.specs.Parts.{IsFormed, IsFormedConst}
+use Rattle.relation_semantics.specs.Parts.{IsRigid, IsFormedConst}
 use Rattle.relation_semantics.specs.Bound.{IsWellBound}
 use Rattle.relation_semantics.specs.Contexts.{Context}
 use Rattle.relation_semantics.specs.Settings.{Setup}
@@ -29,7 +29,7 @@ by_kind t i f c r region_var = r
 abbrev pub MayBeBoundTo : VarKind → Tree → Type 0
 MayBeBoundTo type_var t = IsWellBound t
 MayBeBoundTo const_var t = IsFormedConst t × IsWellBound t
-MayBeBoundTo k t = IsFormed t × IsWellBound t
+MayBeBoundTo k t = IsRigid t × IsWellBound t
 
 -- So in what is bound, binders bind by their lists.
 pub may_by_lists : (k : VarKind) (t : Tree) → MayBeBoundTo k t → IsWellBound t

@@ -2,7 +2,7 @@
 ghost use Rattle.std.specs.Prelude.{◌≡◌, IsTrue, IfOk, map, nat_lt};
 ghost use Rattle.relation_terms.specs.Trees.{known, list_tree};
 ghost use Rattle.relation_terms.specs.Meaning.{Extends, arg_tree};
-ghost use Rattle.relation_folds.specs.Shifts.{OpensBy, ShiftsBy, arg_for, the_ty, the_region, the_const};
+ghost use Rattle.relation_folds.specs.Shifts.{OpensBy, ShiftsBy, arg_for, expect_ty, expect_region, expect_const};
 
 use crate::fold::{Fold, TypeFoldable, TypeFolder, shift_vars};
 use relation_terms::terms::{
@@ -51,7 +51,7 @@ fn ty_for<X: Copy>(
     var: &BoundVar,
     depth: u128,
 ) -> Option<TyKey<X>>
-    ensures { result ≡ the_ty (arg_for args.now (index.now).0 (var.now).0 depth) }
+    ensures { result ≡ expect_ty (arg_for args.now (index.now).0 (var.now).0 depth) }
 {
     match arg_for(args, index, var, depth)? {
         GenericArgKind::Ty(ty) => Some(ty),
@@ -65,7 +65,7 @@ fn region_for<X: Copy>(
     var: &BoundVar,
     depth: u128,
 ) -> Option<RegionKey<X>>
-    ensures { result ≡ the_region (arg_for args.now (index.now).0 (var.now).0 depth) }
+    ensures { result ≡ expect_region (arg_for args.now (index.now).0 (var.now).0 depth) }
 {
     match arg_for(args, index, var, depth)? {
         GenericArgKind::Lifetime(region) => Some(region),
@@ -79,7 +79,7 @@ fn const_for<X: Copy>(
     var: &BoundVar,
     depth: u128,
 ) -> Option<ConstKey<X>>
-    ensures { result ≡ the_const (arg_for args.now (index.now).0 (var.now).0 depth) }
+    ensures { result ≡ expect_const (arg_for args.now (index.now).0 (var.now).0 depth) }
 {
     match arg_for(args, index, var, depth)? {
         GenericArgKind::Const(constant) => Some(constant),

@@ -5,7 +5,9 @@ use crate::fold::walk::{fold_list, fold_part};
 use crate::fold::{
     TypeFoldable, TypeFolder, fold_args_with, fold_const_with, fold_region_with, fold_ty_with,
 };
-use relation_terms::terms::parts::{the_alternatives, the_branches, the_pat, the_tys, the_valtree};
+use relation_terms::terms::parts::{
+    expect_alternatives, expect_branches, expect_pat, expect_tys, expect_valtree,
+};
 use relation_terms::terms::{
     AlternativesKey, ArgsKey, BranchesKey, ConstKey, GenericArgKind, Interner, OutOfMemory, Part,
     Parts, PatKey, RegionKey, TermKind, TyKey, TysKey, ValTreeKey,
@@ -37,31 +39,31 @@ impl<I: Interner> TypeFoldable<I> for ArgsKey<I::Key> {
 
 impl<I: Interner> TypeFoldable<I> for TysKey<I::Key> {
     fn fold_with<F: TypeFolder<I>>(&self, cx: &mut I, folder: &mut F) -> Result<Self, OutOfMemory> {
-        Ok(the_tys(&fold_list(cx, &Parts::Tys(*self), 0, folder)?))
+        Ok(expect_tys(&fold_list(cx, &Parts::Tys(*self), 0, folder)?))
     }
 }
 
 impl<I: Interner> TypeFoldable<I> for ValTreeKey<I::Key> {
     fn fold_with<F: TypeFolder<I>>(&self, cx: &mut I, folder: &mut F) -> Result<Self, OutOfMemory> {
-        Ok(the_valtree(&fold_part(cx, &Part::ValTree(*self), 0, folder)?))
+        Ok(expect_valtree(&fold_part(cx, &Part::ValTree(*self), 0, folder)?))
     }
 }
 
 impl<I: Interner> TypeFoldable<I> for BranchesKey<I::Key> {
     fn fold_with<F: TypeFolder<I>>(&self, cx: &mut I, folder: &mut F) -> Result<Self, OutOfMemory> {
-        Ok(the_branches(&fold_list(cx, &Parts::Branches(*self), 0, folder)?))
+        Ok(expect_branches(&fold_list(cx, &Parts::Branches(*self), 0, folder)?))
     }
 }
 
 impl<I: Interner> TypeFoldable<I> for PatKey<I::Key> {
     fn fold_with<F: TypeFolder<I>>(&self, cx: &mut I, folder: &mut F) -> Result<Self, OutOfMemory> {
-        Ok(the_pat(&fold_part(cx, &Part::Pat(*self), 0, folder)?))
+        Ok(expect_pat(&fold_part(cx, &Part::Pat(*self), 0, folder)?))
     }
 }
 
 impl<I: Interner> TypeFoldable<I> for AlternativesKey<I::Key> {
     fn fold_with<F: TypeFolder<I>>(&self, cx: &mut I, folder: &mut F) -> Result<Self, OutOfMemory> {
-        Ok(the_alternatives(&fold_list(cx, &Parts::Alternatives(*self), 0, folder)?))
+        Ok(expect_alternatives(&fold_list(cx, &Parts::Alternatives(*self), 0, folder)?))
     }
 }
 

@@ -2,24 +2,24 @@
 use crate::fold::walk::{fold_list, fold_part};
 use crate::fold::{TypeFoldable, TypeFolder, fold_args_with};
 use relation_terms::predicate::{ExistentialPredicate, ExistentialProjection, ExistentialTraitRef};
-use relation_terms::terms::parts::{the_existential, the_predicates, the_signature};
+use relation_terms::terms::parts::{expect_existential, expect_predicates, expect_signature};
 use relation_terms::terms::{ExistentialPredicatesKey, FnSig, Interner, OutOfMemory, Part, Parts};
 
 impl<I: Interner> TypeFoldable<I> for ExistentialPredicatesKey<I::Key> {
     fn fold_with<F: TypeFolder<I>>(&self, cx: &mut I, folder: &mut F) -> Result<Self, OutOfMemory> {
-        Ok(the_predicates(&fold_list(cx, &Parts::Predicates(*self), 0, folder)?))
+        Ok(expect_predicates(&fold_list(cx, &Parts::Predicates(*self), 0, folder)?))
     }
 }
 
 impl<I: Interner> TypeFoldable<I> for FnSig<I::Key> {
     fn fold_with<F: TypeFolder<I>>(&self, cx: &mut I, folder: &mut F) -> Result<Self, OutOfMemory> {
-        Ok(the_signature(&fold_part(cx, &Part::Signature(*self), 0, folder)?))
+        Ok(expect_signature(&fold_part(cx, &Part::Signature(*self), 0, folder)?))
     }
 }
 
 impl<I: Interner> TypeFoldable<I> for ExistentialPredicate<I::Key, I::Id> {
     fn fold_with<F: TypeFolder<I>>(&self, cx: &mut I, folder: &mut F) -> Result<Self, OutOfMemory> {
-        Ok(the_existential(&fold_part(cx, &Part::Existential(*self), 0, folder)?))
+        Ok(expect_existential(&fold_part(cx, &Part::Existential(*self), 0, folder)?))
     }
 }
 

@@ -7,7 +7,7 @@ ghost use Rattle.relation_folds.specs.KeyFolds.{FoldsArgs, LeavesTyAs, LeavesReg
 
 use crate::fold::TypeFolder;
 use crate::fold::walk::{fold_list, fold_part, fold_parts};
-use relation_terms::terms::parts::{the_args, the_const, the_region, the_ty};
+use relation_terms::terms::parts::{expect_args, expect_const, expect_region, expect_ty};
 use relation_terms::terms::{Const, GenericArgs, Interner, OutOfMemory, Part, Parts, Region, Ty};
 
 /// What the folder makes of a type: what it puts for it, or else the type with its parts folded.
@@ -23,7 +23,7 @@ pub fn fold_ty_with<I: Interner, F: TypeFolder<I>>(
     ensures made { FoldsTy F.replaces (I.meaning cx.old) folder.old (I.meaning cx.new) ty.now result }
     ensures same { LeavesTyAs F.replaces (I.meaning cx.old) folder.old I.Key.eq ty.now result }
 {
-    Ok(the_ty(&fold_part(cx, &Part::Ty(*ty), 0, folder)?))
+    Ok(expect_ty(&fold_part(cx, &Part::Ty(*ty), 0, folder)?))
 }
 
 /// The type with its parts folded, whatever the folder puts for the type itself.
@@ -38,7 +38,7 @@ pub fn super_fold_ty<I: Interner, F: TypeFolder<I>>(
     ensures sure { IfOk result (λ k. IsTrue (known ((I.meaning cx.new).ty k))) }
     ensures made { FoldsTyParts F.replaces (I.meaning cx.old) folder.old (I.meaning cx.new) ty.now result }
 {
-    Ok(the_ty(&fold_parts(cx, &Part::Ty(*ty), 0, folder)?))
+    Ok(expect_ty(&fold_parts(cx, &Part::Ty(*ty), 0, folder)?))
 }
 
 /// What the folder makes of a region.
@@ -54,7 +54,7 @@ pub fn fold_region_with<I: Interner, F: TypeFolder<I>>(
     ensures made { FoldsRegion F.replaces (I.meaning cx.old) folder.old (I.meaning cx.new) region.now result }
     ensures same { LeavesRegionAs F.replaces (I.meaning cx.old) folder.old I.Key.eq region.now result }
 {
-    Ok(the_region(&fold_part(cx, &Part::Region(*region), 0, folder)?))
+    Ok(expect_region(&fold_part(cx, &Part::Region(*region), 0, folder)?))
 }
 
 /// What the folder makes of a constant: what it puts for it, or else the constant with its parts folded.
@@ -70,7 +70,7 @@ pub fn fold_const_with<I: Interner, F: TypeFolder<I>>(
     ensures made { FoldsConst F.replaces (I.meaning cx.old) folder.old (I.meaning cx.new) constant.now result }
     ensures same { LeavesConstAs F.replaces (I.meaning cx.old) folder.old I.Key.eq constant.now result }
 {
-    Ok(the_const(&fold_part(cx, &Part::Const(*constant), 0, folder)?))
+    Ok(expect_const(&fold_part(cx, &Part::Const(*constant), 0, folder)?))
 }
 
 /// The constant with its parts folded, whatever the folder puts for the constant itself.
@@ -85,7 +85,7 @@ pub fn super_fold_const<I: Interner, F: TypeFolder<I>>(
     ensures sure { IfOk result (λ k. IsTrue (known ((I.meaning cx.new).const_ k))) }
     ensures made { FoldsConstParts F.replaces (I.meaning cx.old) folder.old (I.meaning cx.new) constant.now result }
 {
-    Ok(the_const(&fold_parts(cx, &Part::Const(*constant), 0, folder)?))
+    Ok(expect_const(&fold_parts(cx, &Part::Const(*constant), 0, folder)?))
 }
 
 /// The list with each generic argument folded.
@@ -101,5 +101,5 @@ pub fn fold_args_with<I: Interner, F: TypeFolder<I>>(
     ensures made { FoldsArgs F.replaces (I.meaning cx.old) folder.old (I.meaning cx.new) args.now result }
     ensures same { LeavesArgsAs F.replaces (I.meaning cx.old) folder.old I.Key.eq args.now result }
 {
-    Ok(the_args(&fold_list(cx, &Parts::Args(*args), 0, folder)?))
+    Ok(expect_args(&fold_list(cx, &Parts::Args(*args), 0, folder)?))
 }

@@ -11,10 +11,12 @@ ghost use Rattle.relation_recursion.specs.Comparing.{AreOfOneFormBy, AreAlikeAt,
 ghost use Rattle.relation_recursion.specs.Comparing.{ExistentialsDiffer, PartsDiffer, object_form};
 
 use crate::comparing::compare_pats;
-use crate::parts::the_object;
+use crate::parts::expect_object;
 use relation_folds::error::{ExpectedFound, TypeError, TypeErrorOf};
 use relation_terms::predicate::ExistentialPredicate;
-use relation_terms::terms::parts::{the_existential, the_inputs, the_pat, the_signature};
+use relation_terms::terms::parts::{
+    expect_existential, expect_inputs, expect_pat, expect_signature,
+};
 use relation_terms::terms::{ExistentialPredicates, FnSig, Interner, Part, PartOf, Tys};
 
 /// Answers `Ok` where two signatures say the same besides their types, which are not compared.
@@ -220,11 +222,11 @@ pub fn compare_parts<I: Interner>(
     ensures errors { IfErr result (PartsDiffer (I.meaning cx.now) a.now b.now) }
 {
     match a {
-        Part::Pat(a) => compare_pats(cx, a, &the_pat(b)),
-        Part::Signature(a) => compare_signatures(cx, a, &the_signature(b)),
-        Part::Inputs(a) => compare_inputs(cx, a, &the_inputs(b)),
-        Part::Existential(a) => compare_existentials(cx, a, &the_existential(b)),
-        Part::Object(a) => compare_objects(cx, a, &the_object(b)),
+        Part::Pat(a) => compare_pats(cx, a, &expect_pat(b)),
+        Part::Signature(a) => compare_signatures(cx, a, &expect_signature(b)),
+        Part::Inputs(a) => compare_inputs(cx, a, &expect_inputs(b)),
+        Part::Existential(a) => compare_existentials(cx, a, &expect_existential(b)),
+        Part::Object(a) => compare_objects(cx, a, &expect_object(b)),
         _ => unreachable!(),
     }
 }

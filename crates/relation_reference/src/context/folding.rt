@@ -14,7 +14,7 @@ use crate::context::resolving::resolve_part;
 use crate::context::{InferCtxtInner, RefCtxt};
 use relation_folds::fold::{Fold, TypeFoldable, TypeFolder};
 use relation_semantics::variable_forms::{const_vid, float_vid, int_vid, ty_vid};
-use relation_terms::terms::parts::{the_const, the_ty};
+use relation_terms::terms::parts::{expect_const, expect_ty};
 use relation_terms::terms::{Const, Interner, OutOfMemory, Part, PartOf, Region, RegionKind, Ty};
 use std::collections::HashMap;
 use std::hash::BuildHasherDefault;
@@ -58,7 +58,7 @@ fn put_ty<I: Interner>(
         variable_value (resolved (store_of m inner.now)) (m.ty ty.now) ≡ answered (I.meaning cx.new).ty a) }
 {
     let resolved = resolve_variable(cx, inner, &Part::Ty(*ty), is_made)?;
-    Ok(Fold::Replace(the_ty(&resolved)))
+    Ok(Fold::Replace(expect_ty(&resolved)))
 }
 
 // The same of a constant.
@@ -78,7 +78,7 @@ fn put_const<I: Interner>(
         answered (I.meaning cx.new).const_ a) }
 {
     let resolved = resolve_variable(cx, inner, &Part::Const(*constant), is_made)?;
-    Ok(Fold::Replace(the_const(&resolved)))
+    Ok(Fold::Replace(expect_const(&resolved)))
 }
 
 // Puts for each variable what it comes to by the tables.

@@ -27,7 +27,9 @@ use occurs_check::fates::{Fate, TargetOf, fate_of};
 use occurs_check::term_vid::{TermVid, variable_of};
 use relation_folds::error::{RelateFault, RelateFaultOf, TypeError};
 use relation_folds::fold::first_members;
-use relation_terms::terms::parts::{is_same, member, member_count, parts_of, the_ty, with_parts};
+use relation_terms::terms::parts::{
+    expect_ty, is_same, member, member_count, parts_of, with_parts,
+};
 use relation_terms::terms::{
     Interner, OutOfMemory, Part, PartOf, Ty, TyKey, TyVid, UniverseIndex, Variance,
 };
@@ -205,7 +207,14 @@ impl<I: Interner> RefCtxt<I> {
             return Ok(Part::Ty(became));
         }
         let became = self.generalise_new(term, inside, variance, target, met, clear)?;
-        keep_type(&self.interner, ty, inside, variance, the_ty(&became), met)?;
+        keep_type(
+            &self.interner,
+            ty,
+            inside,
+            variance,
+            expect_ty(&became),
+            met,
+        )?;
         Ok(became)
     }
 

@@ -40,7 +40,7 @@ impl<I: Interner> InferCtxtLike for RefCtxt<I> {
         &mut self.interner
     }
 
-    fn interner_grows(&self) {}
+    fn lemma_interner_grows(&self) {}
 
     fn next_trait_solver(&self) -> bool {
         self.inner.next_solver

@@ -14,7 +14,7 @@ use occurs_check::fates::Target;
 use occurs_check::term_vid::TermVid;
 use relation_folds::error::{RelateFault, RelateFaultOf, TypeError};
 use relation_semantics::relate::StructurallyRelateAliases;
-use relation_terms::terms::parts::{the_const, the_ty};
+use relation_terms::terms::parts::{expect_const, expect_ty};
 use relation_terms::terms::{Const, ConstVid, Interner, Part, Ty, TyVid, Variance};
 
 impl<I: Interner> RefCtxt<I> {
@@ -58,7 +58,7 @@ impl<I: Interner> RefCtxt<I> {
             cyclic: TypeError::CyclicTy(resolved),
         };
         let part = self.generalise(&Part::Ty(resolved), variance, &goal)?;
-        let bound = the_ty(&part);
+        let bound = expect_ty(&part);
         self.inner.types.bind(target.0, bound);
         self.inner.budget -= 1;
         Ok(bound)
@@ -93,7 +93,7 @@ impl<I: Interner> RefCtxt<I> {
             cyclic: TypeError::CyclicConst(resolved),
         };
         let part = self.generalise(&Part::Const(resolved), Variance::Invariant, &goal)?;
-        let bound = the_const(&part);
+        let bound = expect_const(&part);
         self.inner.consts.bind(target.0, bound);
         self.inner.budget -= 1;
         Ok(bound)

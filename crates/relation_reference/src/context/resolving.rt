@@ -14,7 +14,7 @@ use crate::context::shallow::{shallow_resolve, shallow_resolve_const};
 use crate::context::{InferCtxtInner, RefCtxt};
 use relation_folds::fold::first_members;
 use relation_terms::terms::parts::{
-    is_same, member, member_count, parts_of, the_const, the_ty, with_parts,
+    expect_const, expect_ty, is_same, member, member_count, parts_of, with_parts,
 };
 use relation_terms::terms::{Const, Interner, OutOfMemory, Part, PartOf, Parts, PartsOf, Ty};
 use std::collections::HashMap;
@@ -133,7 +133,7 @@ impl<I: Interner> RefCtxt<I> {
     {
         let mut memory = HashMap::with_hasher(self.interner.alloc(), BuildHasherDefault::new());
         let resolved = resolve_part(&mut self.interner, &self.inner, &Part::Ty(*ty), &mut memory);
-        Ok(the_ty(&resolved?))
+        Ok(expect_ty(&resolved?))
     }
 
     // The constant with each variable that has a term replaced by it, at every depth, and each other by its root.
@@ -153,6 +153,6 @@ impl<I: Interner> RefCtxt<I> {
             &Part::Const(*constant),
             &mut memory,
         );
-        Ok(the_const(&resolved?))
+        Ok(expect_const(&resolved?))
     }
 }

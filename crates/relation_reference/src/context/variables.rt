@@ -83,7 +83,7 @@ impl<I: Interner + Drop> RefCtxt<I> {
 
 impl<I: Interner> RefCtxt<I> {
     /// A context over the same interner, as `new` makes one. It takes no memory.
-    pub fn renewed(self, mode: TypingMode<I::Key>, next_solver: bool, budget: usize) -> RefCtxt<I>
+    pub fn reset(self, mode: TypingMode<I::Key>, next_solver: bool, budget: usize) -> RefCtxt<I>
         requires { IsLawful (I.meaning self.interner) self.inner }
         ensures interner { result.interner ≡ self.interner }
         ensures lawful { IsLawful (I.meaning self.interner) result.inner }

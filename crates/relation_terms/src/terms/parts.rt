@@ -13,9 +13,9 @@ mod whole;
 
 pub use forms::{const_parts, existential_parts, pattern_parts, ty_parts, valtree_parts};
 pub use keys::{
-    of_arg, the_alternatives, the_arg, the_args, the_branches, the_const, the_existential,
-    the_input_types, the_inputs, the_pat, the_predicates, the_region, the_signature, the_ty,
-    the_tys, the_valtree,
+    expect_alternatives, expect_arg, expect_args, expect_branches, expect_const,
+    expect_existential, expect_input_types, expect_inputs, expect_pat, expect_predicates,
+    expect_region, expect_signature, expect_ty, expect_tys, expect_valtree, of_arg,
 };
 pub use members::{make_parts, member, member_count};
 pub use orders::visited_place;

@@ -11,13 +11,13 @@ returns-in-Ok-clause-seen g c = λ st all.
     let m = g.I.Interner.meaning c.args.cx.now in
     let a = c.args.around.now in
     let ns = c.args.seen.now.binders in
-    let us = c.add.new.self in
+    let us = c.intern.new.self in
     let vars = c.args.vars.now in
-    let grown = c.add.ensures.added in
+    let grown = c.intern.ensures.added in
     let known = known_grown m st ns us (c.number_around.result, vars) grown all.binders c.requires in
     let numbered = numbered_grown m st ns us (c.number_around.result, vars) grown a all.numbered in
     let has = subst (λ r. IfOk r (HasAt (λ x y. nat_eq x.0 y.0 && g.I.Key.PartialEq.eq x.1.0 y.1.0) us
-    (c.number_around.result, vars))) c.in-Ok.is c.add.ensures.number in
+    (c.number_around.result, vars))) c.in-Ok.is c.intern.ensures.number in
     let stands = subst (λ n. StandsAt m us c.in-Ok.place n (bound_kinds m c.bound_vars-list.result.now))
     c.number_around.ensures (stands_found m st (λ k l. g.I.Key.PartialEq.eq k.0 l.0)
     (g.met.I.Interner.same_bound_vars c.args.cx.now) us c.number_around.result vars c.in-Ok.place known has
@@ -40,9 +40,9 @@ pub returns-in-Err-clause-seen : goal.returns-in-Err-clause-seen
 returns-in-Err-clause-seen g c = λ st all.
     let m = g.I.Interner.meaning c.args.cx.now in
     let ns = c.args.seen.now.binders in
-    let us = c.add.new.self in
+    let us = c.intern.new.self in
     let vars = c.args.vars.now in
-    let grown = c.add.ensures.added in (
+    let grown = c.intern.ensures.added in (
       record {
         closed = all.closed;
         under = λ u k. kept_grown m st ns us (c.number_around.result, vars) grown u (all.under u k);

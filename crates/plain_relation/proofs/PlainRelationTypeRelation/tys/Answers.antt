@@ -1,5 +1,5 @@
 use Rattle.std.proofs.Common.{refl}
-use Rattle.relation_semantics.specs.Parts.{IsFormed}
+use Rattle.relation_semantics.specs.Parts.{IsRigid}
 use Rattle.plain_relation.specs.Plain.{plain_state, plain_manner}
 use Rattle.relation_semantics.proofs.Passing.{parts_left}
 use Rattle.relation_semantics.proofs.Recording.{records_trivial, stands_itself}
@@ -12,7 +12,7 @@ returns-clause-stepped g c =
     let cs = c.args.self.now.constraints.items in
     let is = (g.met.I.Interner.sorted c.args.self.now.interner).ty in
     let k = c.requires.asked in
-    parts_left plain_manner IsFormed (plain_state m c.args.self.now.ambient cs) m.ty c.args.a.now c.args.b.now
+    parts_left plain_manner IsRigid (plain_state m c.args.self.now.ambient cs) m.ty c.args.a.now c.args.b.now
     c.args.a.now c.args.b.now refl refl k
     (formed m cs (m.ty c.args.a.now) (is c.args.a.now k.left_known) k.left_in)
     (formed m cs (m.ty c.args.b.now) (is c.args.b.now k.right_known) k.right_in)

@@ -14,8 +14,8 @@ pub returns-clause-grown : goal.returns-clause-grown
 returns-clause-grown c =
     let items = items_in c.args.self.now in
     let ns = c.args.self.now.nodes in
-    let more = items_in c.add.new.self in
-    let ms = c.add.new.self.nodes in
+    let more = items_in c.intern.new.self in
+    let ms = c.intern.new.self.nodes in
     grows items ns more ms (Clauses c.new.result)
     c.in_ok-number.ensures.items c.in_ok-number.ensures.added
 
@@ -23,8 +23,8 @@ pub returns-clause-made : goal.returns-clause-made
 returns-clause-made c =
     let items = items_in c.args.self.now in
     let ns = c.args.self.now.nodes in
-    let more = items_in c.add.new.self in
-    let ms = c.add.new.self.nodes in
+    let more = items_in c.intern.new.self in
+    let ms = c.intern.new.self.nodes in
     let read = list_tree (table_meaning items ns).clause in
     let i = (c.in_ok-number.number).0 in
     env_reads more ms i ∙
@@ -38,8 +38,8 @@ pub returns-clause-there : goal.returns-clause-there
 returns-clause-there c =
     let items = items_in c.args.self.now in
     let ns = c.args.self.now.nodes in
-    let more = items_in c.add.new.self in
-    let ms = c.add.new.self.nodes in
+    let more = items_in c.intern.new.self in
+    let ms = c.intern.new.self.nodes in
     let read = list_tree (table_meaning items ns).clause in
     let same : read c.new.result.items ≡ nil = ap read c.new.ensures.items in
     let sure : IsTrue (known (read c.new.result.items)) = subst (λ t. IsTrue (known t)) (sym same) refl in

@@ -10,8 +10,8 @@ pub returns-clause-grown : goal.returns-clause-grown
 returns-clause-grown c =
     let items = items_in c.args.self.now in
     let ns = c.args.self.now.nodes in
-    let more = items_in c.add.new.self in
-    let ms = c.add.new.self.nodes in
+    let more = items_in c.intern.new.self in
+    let ms = c.intern.new.self.nodes in
     grows items ns more ms (Alternatives c.in_ok-list.list)
     c.in_ok-number.ensures.items c.in_ok-number.ensures.added
 
@@ -19,8 +19,8 @@ pub returns-clause-made : goal.returns-clause-made
 returns-clause-made c =
     let items = items_in c.args.self.now in
     let ns = c.args.self.now.nodes in
-    let more = items_in c.add.new.self in
-    let ms = c.add.new.self.nodes in
+    let more = items_in c.intern.new.self in
+    let ms = c.intern.new.self.nodes in
     let read = (table_meaning items ns).pat in
     made more ms alternatives_node (list_tree read c.in_ok-list.list.items) (c.in_ok-number.number).0
     c.in_ok-number.ensures.number ∙ ap (λ xs. list_tree read xs) c.in_ok-list.ensures
@@ -32,8 +32,8 @@ pub returns-clause-there : goal.returns-clause-there
 returns-clause-there c =
     let items = items_in c.args.self.now in
     let ns = c.args.self.now.nodes in
-    let more = items_in c.add.new.self in
-    let ms = c.add.new.self.nodes in
+    let more = items_in c.intern.new.self in
+    let ms = c.intern.new.self.nodes in
     let read = (table_meaning items ns).pat in
     let v = c.in_ok-list.list.items in
     let same : list_tree read v ≡ list_tree read c.args.alternatives.now =

@@ -12,8 +12,8 @@ pub returns-clause-grown : goal.returns-clause-grown
 returns-clause-grown c =
     let items = items_in c.args.self.now in
     let ns = c.args.self.now.nodes in
-    let more = items_in c.add.new.self in
-    let ms = c.add.new.self.nodes in
+    let more = items_in c.intern.new.self in
+    let ms = c.intern.new.self.nodes in
     grows items ns more ms (BoundVars c.in_ok-list.list)
     c.in_ok-number.ensures.items c.in_ok-number.ensures.added
 
@@ -21,8 +21,8 @@ pub returns-clause-made : goal.returns-clause-made
 returns-clause-made c =
     let items = items_in c.args.self.now in
     let ns = c.args.self.now.nodes in
-    let more = items_in c.add.new.self in
-    let ms = c.add.new.self.nodes in
+    let more = items_in c.intern.new.self in
+    let ms = c.intern.new.self.nodes in
     let m = table_meaning items ns in
     let ks = bound_kinds m c.in_ok-list.list.items in
     list_under ((table_meaning more ms).bound_vars (record { 0 = c.in_ok-number.number })) ks
@@ -33,8 +33,8 @@ pub returns-clause-there : goal.returns-clause-there
 returns-clause-there c =
     let items = items_in c.args.self.now in
     let ns = c.args.self.now.nodes in
-    let more = items_in c.add.new.self in
-    let ms = c.add.new.self.nodes in
+    let more = items_in c.intern.new.self in
+    let ms = c.intern.new.self.nodes in
     let m = table_meaning items ns in
     let ks = bound_kinds m c.in_ok-list.list.items in
     let same : Some (bound_kinds m c.args.bound_vars.now) ≡ Some ks =

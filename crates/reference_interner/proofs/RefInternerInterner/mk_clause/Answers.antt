@@ -14,8 +14,8 @@ pub returns-clause-grown : goal.returns-clause-grown
 returns-clause-grown c =
     let items = items_in c.args.self.now in
     let ns = c.args.self.now.nodes in
-    let more = items_in c.add.new.self in
-    let ms = c.add.new.self.nodes in
+    let more = items_in c.intern.new.self in
+    let ms = c.intern.new.self.nodes in
     grows items ns more ms
     (Predicate (record { value = Clause c.args.kind.value; bound_vars = c.args.kind.bound_vars }))
     c.in_ok-number.ensures.items c.in_ok-number.ensures.added
@@ -24,8 +24,8 @@ pub returns-clause-made : goal.returns-clause-made
 returns-clause-made c =
     let items = items_in c.args.self.now in
     let ns = c.args.self.now.nodes in
-    let more = items_in c.add.new.self in
-    let ms = c.add.new.self.nodes in
+    let more = items_in c.intern.new.self in
+    let ms = c.intern.new.self.nodes in
     clause_made more ms (c.in_ok-number.number).0 (table_meaning items ns) c.args.kind c.in_ok-number.ensures.number
 
 pub returns-clause-sure : goal.returns-clause-sure
@@ -35,8 +35,8 @@ pub returns-clause-there : goal.returns-clause-there
 returns-clause-there c =
     let items = items_in c.args.self.now in
     let ns = c.args.self.now.nodes in
-    let more = items_in c.add.new.self in
-    let ms = c.add.new.self.nodes in
+    let more = items_in c.intern.new.self in
+    let ms = c.intern.new.self.nodes in
     λ k e.
     let at = clause_stands items ns (k.0).0 (clause_tree (table_meaning items ns) c.args.kind) c.requires e in (
       refl,

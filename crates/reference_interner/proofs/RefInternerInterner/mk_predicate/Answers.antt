@@ -12,8 +12,8 @@ pub returns-clause-grown : goal.returns-clause-grown
 returns-clause-grown c =
     let items = items_in c.args.self.now in
     let ns = c.args.self.now.nodes in
-    let more = items_in c.add.new.self in
-    let ms = c.add.new.self.nodes in
+    let more = items_in c.intern.new.self in
+    let ms = c.intern.new.self.nodes in
     grows items ns more ms (Predicate c.args.kind)
     c.in_ok-number.ensures.items c.in_ok-number.ensures.added
 
@@ -21,8 +21,8 @@ pub returns-clause-made : goal.returns-clause-made
 returns-clause-made c =
     let items = items_in c.args.self.now in
     let ns = c.args.self.now.nodes in
-    let more = items_in c.add.new.self in
-    let ms = c.add.new.self.nodes in
+    let more = items_in c.intern.new.self in
+    let ms = c.intern.new.self.nodes in
     made more ms predicate_node (predicate_tree (table_meaning items ns) c.args.kind)
     (c.in_ok-number.number).0 c.in_ok-number.ensures.number
 
@@ -33,8 +33,8 @@ pub returns-clause-there : goal.returns-clause-there
 returns-clause-there c =
     let items = items_in c.args.self.now in
     let ns = c.args.self.now.nodes in
-    let more = items_in c.add.new.self in
-    let ms = c.add.new.self.nodes in
+    let more = items_in c.intern.new.self in
+    let ms = c.intern.new.self.nodes in
     λ k e.
     let at = stands items ns predicate_node (predicate_tree (table_meaning items ns) c.args.kind)
     (k.0).0 c.requires e in (

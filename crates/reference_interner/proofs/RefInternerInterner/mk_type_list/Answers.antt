@@ -11,8 +11,8 @@ pub returns-clause-grown : goal.returns-clause-grown
 returns-clause-grown c =
     let items = items_in c.args.self.now in
     let ns = c.args.self.now.nodes in
-    let more = items_in c.add.new.self in
-    let ms = c.add.new.self.nodes in
+    let more = items_in c.intern.new.self in
+    let ms = c.intern.new.self.nodes in
     grows items ns more ms (Tys c.in_ok-list.list)
     c.in_ok-number.ensures.items c.in_ok-number.ensures.added
 
@@ -20,8 +20,8 @@ pub returns-clause-made : goal.returns-clause-made
 returns-clause-made c =
     let items = items_in c.args.self.now in
     let ns = c.args.self.now.nodes in
-    let more = items_in c.add.new.self in
-    let ms = c.add.new.self.nodes in
+    let more = items_in c.intern.new.self in
+    let ms = c.intern.new.self.nodes in
     let read = (table_meaning items ns).ty in
     made more ms tys_node (list_tree read (members_of c.in_ok-list.list)) (c.in_ok-number.number).0
     c.in_ok-number.ensures.number ∙ ap (λ xs. list_tree read xs) c.in_ok-list.ensures
@@ -33,8 +33,8 @@ pub returns-clause-there : goal.returns-clause-there
 returns-clause-there c =
     let items = items_in c.args.self.now in
     let ns = c.args.self.now.nodes in
-    let more = items_in c.add.new.self in
-    let ms = c.add.new.self.nodes in
+    let more = items_in c.intern.new.self in
+    let ms = c.intern.new.self.nodes in
     let read = (table_meaning items ns).ty in
     let v = members_of c.in_ok-list.list in
     let same : list_tree read v ≡ list_tree read c.args.tys.now =

@@ -102,7 +102,7 @@ returns-clause-stepped g c =
     λ f h. const_not_left r.kept.settings ((r.meaning).const_ a) ((r.meaning).const_ b) f h (not_left (f, h)) in
     let left_there = subst (λ m. IsFormedConst (m.const_ a) → IsFormedConst (m.const_ b) →
     IsDeferred r.kept.settings (m.const_ a) (m.const_ b) → ⊥) o.meaning left in
-    let w = c.context_grows.ensures z grows (consts_later r s d o c.requires.decides sound grows.extends numbers by_lists
+    let w = c.lemma_context_grows.ensures z grows (consts_later r s d o c.requires.decides sound grows.extends numbers by_lists
     a b res c.requires.asked sorts a_shallow b_shallow left_there meets) c.requires.lawful in
     consts_stepped r s d o c.requires.decides sound grows.extends numbers by_lists a b res c.requires.asked sorts a_shallow
     b_shallow left_there meets q w
@@ -143,7 +143,7 @@ returns-clause-combines g c =
     λ f h. const_not_left r.kept.settings ((r.meaning).const_ a) ((r.meaning).const_ b) f h (not_left (f, h)) in
     let left_there = subst (λ m. IsFormedConst (m.const_ a) → IsFormedConst (m.const_ b) →
     IsDeferred r.kept.settings (m.const_ a) (m.const_ b) → ⊥) o.meaning left in
-    let w = c.context_grows.ensures z grows (consts_later r s d o c.requires.decides sound grows.extends numbers by_lists
+    let w = c.lemma_context_grows.ensures z grows (consts_later r s d o c.requires.decides sound grows.extends numbers by_lists
     a b res c.requires.asked sorts a_shallow b_shallow left_there meets) c.requires.lawful in
     not_left_consts left w.goals (consts_met r q s d o w a b res meets)
 
@@ -183,7 +183,7 @@ returns-clause-memory g c =
     λ f h. const_not_left r.kept.settings ((r.meaning).const_ a) ((r.meaning).const_ b) f h (not_left (f, h)) in
     let left_there = subst (λ m. IsFormedConst (m.const_ a) → IsFormedConst (m.const_ b) →
     IsDeferred r.kept.settings (m.const_ a) (m.const_ b) → ⊥) o.meaning left in
-    let w = c.context_grows.ensures z grows (consts_later r s d o c.requires.decides sound grows.extends numbers by_lists
+    let w = c.lemma_context_grows.ensures z grows (consts_later r s d o c.requires.decides sound grows.extends numbers by_lists
     a b res c.requires.asked sorts a_shallow b_shallow left_there meets) c.requires.lawful in
     w.remembered
 

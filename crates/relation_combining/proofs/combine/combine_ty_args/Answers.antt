@@ -52,7 +52,7 @@ returns-in_err-have_open_argument-clause-noted g c =
     let f = c.in_err-have_open_argument.ensures in
     let grows = subst (λ z. Grows (g.Infcx.InferCtxtLike.state z) d) c.infcx_mut.ensures.value f.grows in
     let same = subst (λ z. d.store ≡ (g.Infcx.InferCtxtLike.state z).store) c.infcx_mut.ensures.value f.same_record in
-    let w = with_meaning o (c.context_grows.ensures c.have_open_argument.new.infcx grows (later_same _ _ same)
+    let w = with_meaning o (c.lemma_context_grows.ensures c.have_open_argument.new.infcx grows (later_same _ _ same)
     c.requires.lawful) same in
     let res = c.from_residual.result in
     noted_with (over_extends r q s d o grows w) (over_with r q s d o grows w) res
@@ -70,7 +70,7 @@ returns-then-not-branch-clause-noted g c =
     let f = c.in_ok-have_open_argument.ensures in
     let grows = subst (λ z. Grows (g.Infcx.InferCtxtLike.state z) d) c.infcx_mut.ensures.value f.grows in
     let same = subst (λ z. d.store ≡ (g.Infcx.InferCtxtLike.state z).store) c.infcx_mut.ensures.value f.same_record in
-    let w = with_meaning o (c.context_grows.ensures c.have_open_argument.new.infcx grows (later_same _ _ same)
+    let w = with_meaning o (c.lemma_context_grows.ensures c.have_open_argument.new.infcx grows (later_same _ _ same)
     c.requires.lawful) same in
     noted_with (over_extends r q s d o grows w) (over_with r q s d o grows w) (Ok (tt {0})) tt
 
@@ -86,7 +86,7 @@ returns-in_err-predicates-clause-noted g c =
     let f = c.in_ok-have_open_argument.ensures in
     let grows = subst (λ z. Grows (g.Infcx.InferCtxtLike.state z) d) c.infcx_mut.ensures.value f.grows in
     let same = subst (λ z. d.store ≡ (g.Infcx.InferCtxtLike.state z).store) c.infcx_mut.ensures.value f.same_record in
-    let w = with_meaning o (c.context_grows.ensures c.have_open_argument.new.infcx grows (later_same _ _ same)
+    let w = with_meaning o (c.lemma_context_grows.ensures c.have_open_argument.new.infcx grows (later_same _ _ same)
     c.requires.lawful) same in
     let u = g.R.PredicateEmittingRelation.with_context y c.both_well_formed.new.infcx in
     let p = g.R.HasState.state u in
@@ -96,7 +96,7 @@ returns-in_err-predicates-clause-noted g c =
     let h = c.in_err-predicates.ensures in
     let grows' = subst (λ z. Grows (g.Infcx.InferCtxtLike.state z) e) c.infcx_mut-2.ensures.value h.grows in
     let same' = subst (λ z. e.store ≡ (g.Infcx.InferCtxtLike.state z).store) c.infcx_mut-2.ensures.value h.same_record in
-    let v = with_meaning over (c.context_grows-2.ensures c.both_well_formed.new.infcx grows' (later_same _ _ same')
+    let v = with_meaning over (c.lemma_context_grows-2.ensures c.both_well_formed.new.infcx grows' (later_same _ _ same')
     (w.lawful c.requires.lawful)) same' in
     let res = c.from_residual-in_err-predicates.result in
     noted_then (Ok (tt {0})) res (noted_with (over_extends r q s d o grows w) (over_with r q s d o grows w) (Ok (tt {0})) tt)
@@ -117,7 +117,7 @@ returns-then-not-branch-clause-registers g c =
     let f = c.in_ok-have_open_argument.ensures in
     let grows = subst (λ z. Grows (g.Infcx.InferCtxtLike.state z) d) c.infcx_mut.ensures.value f.grows in
     let same = subst (λ z. d.store ≡ (g.Infcx.InferCtxtLike.state z).store) c.infcx_mut.ensures.value f.same_record in
-    let w = with_meaning o (c.context_grows.ensures c.have_open_argument.new.infcx grows (later_same _ _ same)
+    let w = with_meaning o (c.lemma_context_grows.ensures c.have_open_argument.new.infcx grows (later_same _ _ same)
     c.requires.lawful) same in
     let b = c.in_ok-have_open_argument.field-0 in
     let i = c.args.def_id.now.0 in
@@ -147,7 +147,7 @@ register_predicates-requires-clause-known g c =
     let f = c.in_ok-have_open_argument.ensures in
     let grows = subst (λ z. Grows (g.Infcx.InferCtxtLike.state z) d) c.infcx_mut.ensures.value f.grows in
     let same = subst (λ z. d.store ≡ (g.Infcx.InferCtxtLike.state z).store) c.infcx_mut.ensures.value f.same_record in
-    let w = with_meaning o (c.context_grows.ensures c.have_open_argument.new.infcx grows (later_same _ _ same)
+    let w = with_meaning o (c.lemma_context_grows.ensures c.have_open_argument.new.infcx grows (later_same _ _ same)
     c.requires.lawful) same in
     let b = c.in_ok-have_open_argument.field-0 in
     let i = c.args.def_id.now.0 in
@@ -169,7 +169,7 @@ register_predicates-requires-clause-known g c =
     let h = c.in_ok-predicates.ensures in
     let grows' = subst (λ z. Grows (g.Infcx.InferCtxtLike.state z) e) c.infcx_mut-2.ensures.value h.grows in
     let same' = subst (λ z. e.store ≡ (g.Infcx.InferCtxtLike.state z).store) c.infcx_mut-2.ensures.value h.same_record in
-    let v = with_meaning over (c.context_grows-2.ensures c.both_well_formed.new.infcx grows' (later_same _ _ same')
+    let v = with_meaning over (c.lemma_context_grows-2.ensures c.both_well_formed.new.infcx grows' (later_same _ _ same')
     (w.lawful c.requires.lawful)) same' in
     let k = c.args.a_ty.now in
     let l = c.args.b_ty.now in
@@ -196,7 +196,7 @@ returns-in_err-register_predicates-clause-noted g c =
     let f = c.in_ok-have_open_argument.ensures in
     let grows = subst (λ z. Grows (g.Infcx.InferCtxtLike.state z) d) c.infcx_mut.ensures.value f.grows in
     let same = subst (λ z. d.store ≡ (g.Infcx.InferCtxtLike.state z).store) c.infcx_mut.ensures.value f.same_record in
-    let w = with_meaning o (c.context_grows.ensures c.have_open_argument.new.infcx grows (later_same _ _ same)
+    let w = with_meaning o (c.lemma_context_grows.ensures c.have_open_argument.new.infcx grows (later_same _ _ same)
     c.requires.lawful) same in
     let b = c.in_ok-have_open_argument.field-0 in
     let i = c.args.def_id.now.0 in
@@ -218,7 +218,7 @@ returns-in_err-register_predicates-clause-noted g c =
     let h = c.in_ok-predicates.ensures in
     let grows' = subst (λ z. Grows (g.Infcx.InferCtxtLike.state z) e) c.infcx_mut-2.ensures.value h.grows in
     let same' = subst (λ z. e.store ≡ (g.Infcx.InferCtxtLike.state z).store) c.infcx_mut-2.ensures.value h.same_record in
-    let v = with_meaning over (c.context_grows-2.ensures c.both_well_formed.new.infcx grows' (later_same _ _ same')
+    let v = with_meaning over (c.lemma_context_grows-2.ensures c.both_well_formed.new.infcx grows' (later_same _ _ same')
     (w.lawful c.requires.lawful)) same' in
     let k = c.args.a_ty.now in
     let l = c.args.b_ty.now in
@@ -252,7 +252,7 @@ returns-clause-noted g c =
     let f = c.in_ok-have_open_argument.ensures in
     let grows = subst (λ z. Grows (g.Infcx.InferCtxtLike.state z) d) c.infcx_mut.ensures.value f.grows in
     let same = subst (λ z. d.store ≡ (g.Infcx.InferCtxtLike.state z).store) c.infcx_mut.ensures.value f.same_record in
-    let w = with_meaning o (c.context_grows.ensures c.have_open_argument.new.infcx grows (later_same _ _ same)
+    let w = with_meaning o (c.lemma_context_grows.ensures c.have_open_argument.new.infcx grows (later_same _ _ same)
     c.requires.lawful) same in
     let b = c.in_ok-have_open_argument.field-0 in
     let i = c.args.def_id.now.0 in
@@ -274,7 +274,7 @@ returns-clause-noted g c =
     let h = c.in_ok-predicates.ensures in
     let grows' = subst (λ z. Grows (g.Infcx.InferCtxtLike.state z) e) c.infcx_mut-2.ensures.value h.grows in
     let same' = subst (λ z. e.store ≡ (g.Infcx.InferCtxtLike.state z).store) c.infcx_mut-2.ensures.value h.same_record in
-    let v = with_meaning over (c.context_grows-2.ensures c.both_well_formed.new.infcx grows' (later_same _ _ same')
+    let v = with_meaning over (c.lemma_context_grows-2.ensures c.both_well_formed.new.infcx grows' (later_same _ _ same')
     (w.lawful c.requires.lawful)) same' in
     let k = c.args.a_ty.now in
     let l = c.args.b_ty.now in
@@ -305,7 +305,7 @@ returns-clause-registers g c =
     let f = c.in_ok-have_open_argument.ensures in
     let grows = subst (λ z. Grows (g.Infcx.InferCtxtLike.state z) d) c.infcx_mut.ensures.value f.grows in
     let same = subst (λ z. d.store ≡ (g.Infcx.InferCtxtLike.state z).store) c.infcx_mut.ensures.value f.same_record in
-    let w = with_meaning o (c.context_grows.ensures c.have_open_argument.new.infcx grows (later_same _ _ same)
+    let w = with_meaning o (c.lemma_context_grows.ensures c.have_open_argument.new.infcx grows (later_same _ _ same)
     c.requires.lawful) same in
     let b = c.in_ok-have_open_argument.field-0 in
     let i = c.args.def_id.now.0 in
@@ -327,7 +327,7 @@ returns-clause-registers g c =
     let h = c.in_ok-predicates.ensures in
     let grows' = subst (λ z. Grows (g.Infcx.InferCtxtLike.state z) e) c.infcx_mut-2.ensures.value h.grows in
     let same' = subst (λ z. e.store ≡ (g.Infcx.InferCtxtLike.state z).store) c.infcx_mut-2.ensures.value h.same_record in
-    let v = with_meaning over (c.context_grows-2.ensures c.both_well_formed.new.infcx grows' (later_same _ _ same')
+    let v = with_meaning over (c.lemma_context_grows-2.ensures c.both_well_formed.new.infcx grows' (later_same _ _ same')
     (w.lawful c.requires.lawful)) same' in
     let k = c.args.a_ty.now in
     let l = c.args.b_ty.now in
@@ -355,7 +355,7 @@ both_well_formed-requires-clause-lawful g c =
     let f = c.in_ok-have_open_argument.ensures in
     let grows = subst (λ z. Grows (g.Infcx.InferCtxtLike.state z) d) c.infcx_mut.ensures.value f.grows in
     let same = subst (λ z. d.store ≡ (g.Infcx.InferCtxtLike.state z).store) c.infcx_mut.ensures.value f.same_record in
-    let w = with_meaning o (c.context_grows.ensures c.have_open_argument.new.infcx grows (later_same _ _ same)
+    let w = with_meaning o (c.lemma_context_grows.ensures c.have_open_argument.new.infcx grows (later_same _ _ same)
     c.requires.lawful) same in
     let over = g.met.R.PredicateEmittingRelation.over y in
     subst (λ z. (g.Infcx.InferCtxtLike.state z).lawful) (sym c.infcx_mut-2.ensures.value)
@@ -374,7 +374,7 @@ both_well_formed-requires-clause-a_known g c =
     let f = c.in_ok-have_open_argument.ensures in
     let grows = subst (λ z. Grows (g.Infcx.InferCtxtLike.state z) d) c.infcx_mut.ensures.value f.grows in
     let same = subst (λ z. d.store ≡ (g.Infcx.InferCtxtLike.state z).store) c.infcx_mut.ensures.value f.same_record in
-    let w = with_meaning o (c.context_grows.ensures c.have_open_argument.new.infcx grows (later_same _ _ same)
+    let w = with_meaning o (c.lemma_context_grows.ensures c.have_open_argument.new.infcx grows (later_same _ _ same)
     c.requires.lawful) same in
     let over = g.met.R.PredicateEmittingRelation.over y in
     let k = c.args.a_ty.now in
@@ -396,7 +396,7 @@ both_well_formed-requires-clause-b_known g c =
     let f = c.in_ok-have_open_argument.ensures in
     let grows = subst (λ z. Grows (g.Infcx.InferCtxtLike.state z) d) c.infcx_mut.ensures.value f.grows in
     let same = subst (λ z. d.store ≡ (g.Infcx.InferCtxtLike.state z).store) c.infcx_mut.ensures.value f.same_record in
-    let w = with_meaning o (c.context_grows.ensures c.have_open_argument.new.infcx grows (later_same _ _ same)
+    let w = with_meaning o (c.lemma_context_grows.ensures c.have_open_argument.new.infcx grows (later_same _ _ same)
     c.requires.lawful) same in
     let over = g.met.R.PredicateEmittingRelation.over y in
     let l = c.args.b_ty.now in
@@ -417,7 +417,7 @@ register_predicates-requires-clause-lawful g c =
     let f = c.in_ok-have_open_argument.ensures in
     let grows = subst (λ z. Grows (g.Infcx.InferCtxtLike.state z) d) c.infcx_mut.ensures.value f.grows in
     let same = subst (λ z. d.store ≡ (g.Infcx.InferCtxtLike.state z).store) c.infcx_mut.ensures.value f.same_record in
-    let w = with_meaning o (c.context_grows.ensures c.have_open_argument.new.infcx grows (later_same _ _ same)
+    let w = with_meaning o (c.lemma_context_grows.ensures c.have_open_argument.new.infcx grows (later_same _ _ same)
     c.requires.lawful) same in
     let over = g.met.R.PredicateEmittingRelation.over y in
     let t = g.Infcx.InferCtxtLike.state (g.R.PredicateEmittingRelation.context y) in
@@ -425,6 +425,6 @@ register_predicates-requires-clause-lawful g c =
     let h = c.in_ok-predicates.ensures in
     let grows' = subst (λ z. Grows (g.Infcx.InferCtxtLike.state z) e) c.infcx_mut-2.ensures.value h.grows in
     let same' = subst (λ z. e.store ≡ (g.Infcx.InferCtxtLike.state z).store) c.infcx_mut-2.ensures.value h.same_record in
-    let v = with_meaning over (c.context_grows-2.ensures c.both_well_formed.new.infcx grows' (later_same _ _ same')
+    let v = with_meaning over (c.lemma_context_grows-2.ensures c.both_well_formed.new.infcx grows' (later_same _ _ same')
     (w.lawful c.requires.lawful)) same' in
     v.lawful (w.lawful c.requires.lawful)

@@ -16,7 +16,7 @@ returns-in_err-predicate g c =
     let grows = subst (λ z. Grows (g.Infcx.InferCtxtLike.state z) d) c.infcx_mut.ensures.value c.ambiguous_predicate.ensures.grows in
     let same = subst (λ z. d.store ≡ (g.Infcx.InferCtxtLike.state z).store) c.infcx_mut.ensures.value
     c.ambiguous_predicate.ensures.same_store in
-    let w = c.context_grows.ensures z grows (same_later s d same) c.requires.lawful in
+    let w = c.lemma_context_grows.ensures z grows (same_later s d same) c.requires.lawful in
     none_registered o w grows.extends same ambiguous_predicate c.from_residual.result c.from_residual.ensures.0
 
 pub register_one-requires-clause-lawful : goal.register_one-requires-clause-lawful
@@ -31,7 +31,7 @@ register_one-requires-clause-lawful g c =
     let grows = subst (λ z. Grows (g.Infcx.InferCtxtLike.state z) d) c.infcx_mut.ensures.value c.ambiguous_predicate.ensures.grows in
     let same = subst (λ z. d.store ≡ (g.Infcx.InferCtxtLike.state z).store) c.infcx_mut.ensures.value
     c.ambiguous_predicate.ensures.same_store in
-    let w = c.context_grows.ensures z grows (same_later s d same) c.requires.lawful in
+    let w = c.lemma_context_grows.ensures z grows (same_later s d same) c.requires.lawful in
     w.lawful c.requires.lawful
 
 pub register_one-requires-clause-known : goal.register_one-requires-clause-known
@@ -46,7 +46,7 @@ register_one-requires-clause-known g c =
     let grows = subst (λ z. Grows (g.Infcx.InferCtxtLike.state z) d) c.infcx_mut.ensures.value c.ambiguous_predicate.ensures.grows in
     let same = subst (λ z. d.store ≡ (g.Infcx.InferCtxtLike.state z).store) c.infcx_mut.ensures.value
     c.ambiguous_predicate.ensures.same_store in
-    let w = c.context_grows.ensures z grows (same_later s d same) c.requires.lawful in
+    let w = c.lemma_context_grows.ensures z grows (same_later s d same) c.requires.lawful in
     predicate_known o w c.in_ok-predicate.predicate ambiguous_predicate c.in_ok-predicate.ensures.made refl
 
 pub returns : goal.returns
@@ -61,6 +61,6 @@ returns g c =
     let grows = subst (λ z. Grows (g.Infcx.InferCtxtLike.state z) d) c.infcx_mut.ensures.value c.ambiguous_predicate.ensures.grows in
     let same = subst (λ z. d.store ≡ (g.Infcx.InferCtxtLike.state z).store) c.infcx_mut.ensures.value
     c.ambiguous_predicate.ensures.same_store in
-    let w = c.context_grows.ensures z grows (same_later s d same) c.requires.lawful in
+    let w = c.lemma_context_grows.ensures z grows (same_later s d same) c.requires.lawful in
     one_registered o w grows.extends same c.in_ok-predicate.predicate ambiguous_predicate c.in_ok-predicate.ensures.made c.register_one.result
     c.register_one.ensures

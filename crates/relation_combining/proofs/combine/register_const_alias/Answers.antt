@@ -17,7 +17,7 @@ returns-in_err-predicate g c =
     let grows = subst (λ z. Grows (g.Infcx.InferCtxtLike.state z) d) c.infcx_mut-infcx.ensures.value c.alias_relate_predicate.ensures.grows in
     let same = subst (λ z. d.store ≡ (g.Infcx.InferCtxtLike.state z).store) c.infcx_mut-infcx.ensures.value
     c.alias_relate_predicate.ensures.same_store in
-    let w = c.context_grows.ensures z grows (same_later s d same) c.requires.lawful in
+    let w = c.lemma_context_grows.ensures z grows (same_later s d same) c.requires.lawful in
     none_registered o w grows.extends same (alias_relate_predicate Equate ((r.meaning).const_ c.args.a.now) ((r.meaning).const_ c.args.b.now)) c.from_residual.result c.from_residual.ensures.0
 
 pub register_one-requires-clause-lawful : goal.register_one-requires-clause-lawful
@@ -32,7 +32,7 @@ register_one-requires-clause-lawful g c =
     let grows = subst (λ z. Grows (g.Infcx.InferCtxtLike.state z) d) c.infcx_mut-infcx.ensures.value c.alias_relate_predicate.ensures.grows in
     let same = subst (λ z. d.store ≡ (g.Infcx.InferCtxtLike.state z).store) c.infcx_mut-infcx.ensures.value
     c.alias_relate_predicate.ensures.same_store in
-    let w = c.context_grows.ensures z grows (same_later s d same) c.requires.lawful in
+    let w = c.lemma_context_grows.ensures z grows (same_later s d same) c.requires.lawful in
     w.lawful c.requires.lawful
 
 pub register_one-requires-clause-known : goal.register_one-requires-clause-known
@@ -47,7 +47,7 @@ register_one-requires-clause-known g c =
     let grows = subst (λ z. Grows (g.Infcx.InferCtxtLike.state z) d) c.infcx_mut-infcx.ensures.value c.alias_relate_predicate.ensures.grows in
     let same = subst (λ z. d.store ≡ (g.Infcx.InferCtxtLike.state z).store) c.infcx_mut-infcx.ensures.value
     c.alias_relate_predicate.ensures.same_store in
-    let w = c.context_grows.ensures z grows (same_later s d same) c.requires.lawful in
+    let w = c.lemma_context_grows.ensures z grows (same_later s d same) c.requires.lawful in
     predicate_known o w c.in_ok-predicate.predicate (alias_relate_predicate Equate ((r.meaning).const_ c.args.a.now) ((r.meaning).const_ c.args.b.now)) (subst (λ m. (d.meaning).predicate c.in_ok-predicate.predicate
     ≡ alias_relate_predicate Equate (m.const_ c.args.a.now) (m.const_ c.args.b.now)) (sym o.meaning)
     (subst (λ z. let m = (g.Infcx.InferCtxtLike.state z).meaning in (d.meaning).predicate c.in_ok-predicate.predicate
@@ -68,7 +68,7 @@ returns g c =
     let grows = subst (λ z. Grows (g.Infcx.InferCtxtLike.state z) d) c.infcx_mut-infcx.ensures.value c.alias_relate_predicate.ensures.grows in
     let same = subst (λ z. d.store ≡ (g.Infcx.InferCtxtLike.state z).store) c.infcx_mut-infcx.ensures.value
     c.alias_relate_predicate.ensures.same_store in
-    let w = c.context_grows.ensures z grows (same_later s d same) c.requires.lawful in
+    let w = c.lemma_context_grows.ensures z grows (same_later s d same) c.requires.lawful in
     one_registered o w grows.extends same c.in_ok-predicate.predicate (alias_relate_predicate Equate ((r.meaning).const_ c.args.a.now) ((r.meaning).const_ c.args.b.now)) (subst (λ m. (d.meaning).predicate c.in_ok-predicate.predicate
     ≡ alias_relate_predicate Equate (m.const_ c.args.a.now) (m.const_ c.args.b.now)) (sym o.meaning)
     (subst (λ z. let m = (g.Infcx.InferCtxtLike.state z).meaning in (d.meaning).predicate c.in_ok-predicate.predicate

@@ -266,7 +266,7 @@ returns-in-ToNone g c =
     let stands = subst (λ z. Stands (g.Infcx.InferCtxtLike.state z) d) c.infcx_mut.ensures.value c.meet_tys.ensures.stands in
     let meets = subst (λ z. MeetsTys (g.Infcx.InferCtxtLike.state z).meaning (g.Infcx.InferCtxtLike.state z).store
     d.store a b res) c.infcx_mut.ensures.value c.meet_tys.ensures.combines in
-    let w = c.context_grows.ensures z (stands_grows s d stands) (combined_later s.meaning s.store d.store a b res sound meets)
+    let w = c.lemma_context_grows.ensures z (stands_grows s d stands) (combined_later s.meaning s.store d.store a b res sound meets)
     c.requires.lawful in
     record {
       stepped = λ n m. types_stepped r s d o c.requires.decides sound q w stands.meaning a b res k (sorts a) (sorts b) n m

@@ -19,7 +19,7 @@ returns-clause-alone g c =
     c.set_tainted_by_errors.ensures.stands in
     let taints = subst (λ z. Taints (g.Infcx.InferCtxtLike.state z).store d.store) c.infcx_mut.ensures.value
     c.set_tainted_by_errors.ensures.taints in
-    let w = c.context_grows.ensures z (stands_grows s d stands) (changes_goes s.store d.store taints.nothing_else).later
+    let w = c.lemma_context_grows.ensures z (stands_grows s d stands) (changes_goes s.store d.store taints.nothing_else).later
     c.requires in
     tainted_alone o w stands taints
 
@@ -36,6 +36,6 @@ returns-clause-kept g c =
     c.set_tainted_by_errors.ensures.stands in
     let taints = subst (λ z. Taints (g.Infcx.InferCtxtLike.state z).store d.store) c.infcx_mut.ensures.value
     c.set_tainted_by_errors.ensures.taints in
-    let w = c.context_grows.ensures z (stands_grows s d stands) (changes_goes s.store d.store taints.nothing_else).later
+    let w = c.lemma_context_grows.ensures z (stands_grows s d stands) (changes_goes s.store d.store taints.nothing_else).later
     c.requires in
     all_kept o w

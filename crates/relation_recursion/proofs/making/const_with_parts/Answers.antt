@@ -39,8 +39,8 @@ mk_const-requires g c =
     let sure = value_type_known k t v e c.requires.constant_known in
     let made = c.in_ok-value-in-Value.ensures in
     let same : n.ty c.in-Value.ty ≡ t = (made.grown).ty c.in-Value.ty sure in
-    let r : n.valtree c.the_valtree.result ≡ part_tree n c.in_ok-value-in-Value.value = ap (part_tree n) c.the_valtree.ensures in
-    value_known (n.ty c.in-Value.ty) (n.valtree c.the_valtree.result) (subst (λ z. IsTrue (known z)) (sym same) sure)
+    let r : n.valtree c.expect_valtree.result ≡ part_tree n c.in_ok-value-in-Value.value = ap (part_tree n) c.expect_valtree.ensures in
+    value_known (n.ty c.in-Value.ty) (n.valtree c.expect_valtree.result) (subst (λ z. IsTrue (known z)) (sym same) sure)
     (subst (λ z. IsTrue (known z)) (sym r) made.sure)
 
 pub returns-in-Value : goal.returns-in-Value
@@ -60,8 +60,8 @@ returns-in-Value g c =
     let made = c.in_ok-value-in-Value.ensures in
     let same : n.ty c.in-Value.ty ≡ t =
     (made.grown).ty c.in-Value.ty (value_type_known k t v e c.requires.constant_known) in
-    let r : n.valtree c.the_valtree.result ≡ term_over v us = ap (part_tree n) c.the_valtree.ensures ∙ made.made in
-    let whole : value_of (n.ty c.in-Value.ty) (n.valtree c.the_valtree.result) ≡ const_over k us =
+    let r : n.valtree c.expect_valtree.result ≡ term_over v us = ap (part_tree n) c.expect_valtree.ensures ∙ made.made in
+    let whole : value_of (n.ty c.in-Value.ty) (n.valtree c.expect_valtree.result) ≡ const_over k us =
     ap₂ value_of same r ∙ value_over t v us is ∙ sym (ap (λ z. const_over z us) e) in
     record {
       extends = extends_on made.grown c.mk_const.ensures.grown;
@@ -94,7 +94,7 @@ returns g c =
     let us = list_tree (part_tree m) ps in
     let q : ps ≡ map part_of_arg xs = c.as_slice-in_default.ensures.value ∙ c.in_ok-parts.ensures in
     let made = c.in_ok-made-in_default.ensures in
-    let r : n.const_ c.the_const.result ≡ part_tree n c.in_ok-made-in_default.made = ap (part_tree n) c.the_const.ensures in
+    let r : n.const_ c.expect_const.result ≡ part_tree n c.in_ok-made-in_default.made = ap (part_tree n) c.expect_const.ensures in
     let same : term_over k us ≡ const_over k us = ap (λ z. term_over z us) c.const_kind.ensures
     ∙ const_over_as m c.const_kind.result us c.in_default.not-Value ∙ sym (ap (λ z. const_over z us) c.const_kind.ensures) in
     record {

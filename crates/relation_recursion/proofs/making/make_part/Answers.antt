@@ -14,7 +14,7 @@ returns-in_err-made-clause-made g c =
     let q = g.R.HasState.state (g.R.TypeRelation.with_interner c.args.r.now cx) in
     let made = c.in_err-made.ensures.made in
     let later = subst (λ m. Extends m (g.I.Interner.meaning cx)) c.cx_mut.ensures.value made.extends in
-    let grown : WithMeaning r (g.I.Interner.meaning cx) q = c.interner_grows.ensures cx later c.requires.lawful in
+    let grown : WithMeaning r (g.I.Interner.meaning cx) q = c.lemma_interner_grows.ensures cx later c.requires.lawful in
     subst (Made r.meaning q.meaning (part_tree q.meaning)
     (form_over (part_tree r.meaning c.args.term.now) (list_tree (part_tree r.meaning) c.args.parts.now)))
     (sym (as_err c.from_residual.result _ c.from_residual.ensures.0 c.from_residual.ensures.1))
@@ -27,7 +27,7 @@ returns-clause-grown g c =
     let q = g.R.HasState.state (g.R.TypeRelation.with_interner c.args.r.now cx) in
     let made = c.in_ok-made.ensures.made in
     let later = subst (λ m. Extends m (g.I.Interner.meaning cx)) c.cx_mut.ensures.value made.extends in
-    let grown : WithMeaning r (g.I.Interner.meaning cx) q = c.interner_grows.ensures cx later c.requires.lawful in
+    let grown : WithMeaning r (g.I.Interner.meaning cx) q = c.lemma_interner_grows.ensures cx later c.requires.lawful in
     subst (λ m. WithMeaning r m q) (sym grown.meaning) grown
 
 pub returns-clause-made : goal.returns-clause-made
@@ -40,7 +40,7 @@ returns-clause-made g c =
     let t = c.args.term.now in
     let xs = c.args.parts.now in
     let later = subst (λ m. Extends m (g.I.Interner.meaning cx)) c.cx_mut.ensures.value made.extends in
-    let grown : WithMeaning r (g.I.Interner.meaning cx) q = c.interner_grows.ensures cx later c.requires.lawful in
+    let grown : WithMeaning r (g.I.Interner.meaning cx) q = c.lemma_interner_grows.ensures cx later c.requires.lawful in
     record {
       extends = subst (Extends r.meaning) (sym grown.meaning) later;
       sure = subst (λ m. IsTrue (known (part_tree m p))) (sym grown.meaning) made.sure;

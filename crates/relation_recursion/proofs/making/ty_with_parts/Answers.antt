@@ -31,7 +31,7 @@ returns g c =
     let ps = c.as_slice.result.now in
     let q : ps ≡ map part_of_arg xs = c.as_slice.ensures.value ∙ c.in_ok-parts.ensures in
     let made = c.in_ok-made.ensures in
-    let r : n.ty c.the_ty.result ≡ part_tree n c.in_ok-made.made = ap (part_tree n) c.the_ty.ensures in
+    let r : n.ty c.expect_ty.result ≡ part_tree n c.in_ok-made.made = ap (part_tree n) c.expect_ty.ensures in
     record {
       extends = made.grown;
       sure = subst (λ z. IsTrue (known z)) (sym r) made.sure;

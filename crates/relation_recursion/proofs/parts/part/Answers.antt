@@ -13,8 +13,8 @@ pub member-requires-clause-in_bounds : goal.member-requires-clause-in_bounds
 member-requires-clause-in_bounds g c =
     subst (λ z. c.args.i < count z) (sym c.parts_in.ensures.means) c.requires.in_bounds
 
-pub the_arg-requires : goal.the_arg-requires
-the_arg-requires g c =
+pub expect_arg-requires : goal.expect_arg-requires
+expect_arg-requires g c =
     let m = g.I.Interner.meaning c.args.cx.now in
     let t = m.ty c.args.ty.now in
     let is = (g.met.I.Interner.sorted c.args.cx.now).ty c.args.ty.now c.requires.ty_known in
@@ -27,8 +27,8 @@ the_arg-requires g c =
 pub returns : goal.returns
 returns g c =
     let m = g.I.Interner.meaning c.args.cx.now in
-    let same : arg_tree m c.the_arg.result ≡ part_tree m c.member.result =
-    sym (arg_part m c.the_arg.result) ∙ ap (part_tree m) c.the_arg.ensures in
+    let same : arg_tree m c.expect_arg.result ≡ part_tree m c.member.result =
+    sym (arg_part m c.expect_arg.result) ∙ ap (part_tree m) c.expect_arg.ensures in
     record {
       sure = subst (λ z. IsTrue (known z)) (sym same) c.member.ensures.sure;
       means = same ∙ c.member.ensures.means ∙ ap (nth c.args.i) c.parts_in.ensures.means;

@@ -15,7 +15,7 @@ use Rattle.relation_folds.specs.declared.error.RelateFault.TheVariants.{Unrelate
 use Rattle.relation_semantics.specs.Relation.{part_at}
 use Rattle.relation_semantics.specs.AskedAlone.{AsksNoneAlone}
 use Rattle.relation_semantics.specs.Errors.{AreOfOneForm, IsDeferred, PartError}
-use Rattle.relation_semantics.specs.Parts.{IsFormed, IsFormedConst, IsByParts, IsRelatedPart, IsComparedPart, IsArgPart}
+use Rattle.relation_semantics.specs.Parts.{IsRigid, IsFormedConst, IsByParts, IsRelatedPart, IsComparedPart, IsArgPart}
 use Rattle.relation_semantics.specs.Parts.{IsBinderPart, ArePaired, direct_parts, const_parts_of, head_of}
 use Rattle.relation_semantics.specs.Parts.{const_head_of}
 use Rattle.relation_semantics.specs.Stores.{weight}
@@ -197,9 +197,9 @@ tys-returns-in-Done-clause-related g t c =
     let a = (r.meaning).ty c.args.a.now in
     let b = (r.meaning).ty c.args.b.now in
     let q = g.R.HasState.state c.tys.new.self in
-    let step = subst (λ z. Stepped M IsFormed r q a b (q.meaning).ty (Ok z)) c.in-Done.is c.in_ok-answer.ensures.stepped in
+    let step = subst (λ z. Stepped M IsRigid r q a b (q.meaning).ty (Ok z)) c.in-Done.is c.in_ok-answer.ensures.stepped in
     let just = subst (λ z. StepRecords M r q (q.meaning).ty a b (Ok z)) c.in-Done.is c.in_ok-answer.ensures.records in
-    step_done M IsFormed a b (q.meaning).ty c.in-Done.answer step just
+    step_done M IsRigid a b (q.meaning).ty c.in-Done.answer step just
 
 pub tys-structurally_relate_tys-requires : goal.tys-structurally_relate_tys-requires
 tys-structurally_relate_tys-requires g t c κs within =
@@ -208,7 +208,7 @@ tys-structurally_relate_tys-requires g t c κs within =
     let a = (r.meaning).ty c.args.a.now in
     let b = (r.meaning).ty c.args.b.now in
     let q = g.R.HasState.state c.tys.new.self in
-    let step = subst (λ z. Stepped M IsFormed r q a b (q.meaning).ty (Ok z)) c.in-Parts.is c.in_ok-answer.ensures.stepped in
+    let step = subst (λ z. Stepped M IsRigid r q a b (q.meaning).ty (Ok z)) c.in-Parts.is c.in_ok-answer.ensures.stepped in
     let x = (q.meaning).ty c.in-Parts.a in
     let y = (q.meaning).ty c.in-Parts.b in
     let lawful = (step.passes).lawful c.requires.lawful in
@@ -216,7 +216,7 @@ tys-structurally_relate_tys-requires g t c κs within =
     let asked : Asked M q q.ambient x y = subst (λ v. Asked M q v x y) (sym (step.passes).ambient) (step.verdict).asked in
     let left = (step.verdict).left_form in
     let right = (step.verdict).right_form in
-    let under = parts_under M a b IsFormed (step.passes).added x y step.verdict in
+    let under = parts_under M a b IsRigid (step.passes).added x y step.verdict in
     let d = c.decreases in
     search rules
 
@@ -227,7 +227,7 @@ tys-relate_again-requires g t c κs within =
     let a = (r.meaning).ty c.args.a.now in
     let b = (r.meaning).ty c.args.b.now in
     let q = g.R.HasState.state c.tys.new.self in
-    let step = subst (λ z. Stepped M IsFormed r q a b (q.meaning).ty (Ok z)) c.in-Again.is c.in_ok-answer.ensures.stepped in
+    let step = subst (λ z. Stepped M IsRigid r q a b (q.meaning).ty (Ok z)) c.in-Again.is c.in_ok-answer.ensures.stepped in
     let x = (q.meaning).ty c.in-Again.x in
     let y = (q.meaning).ty c.in-Again.y in
     let k = (q.meaning).ty c.in-Again.a in
@@ -248,7 +248,7 @@ tys-returns-in_err-relate_again-in-Again-clause-related g t c =
     let a = (r.meaning).ty c.args.a.now in
     let b = (r.meaning).ty c.args.b.now in
     let q = g.R.HasState.state c.tys.new.self in
-    let step = subst (λ z. Stepped M IsFormed r q a b (q.meaning).ty (Ok z)) c.in-Again.is c.in_ok-answer.ensures.stepped in
+    let step = subst (λ z. Stepped M IsRigid r q a b (q.meaning).ty (Ok z)) c.in-Again.is c.in_ok-answer.ensures.stepped in
     let x = (q.meaning).ty c.in-Again.x in
     let y = (q.meaning).ty c.in-Again.y in
     let k = (q.meaning).ty c.in-Again.a in
@@ -272,7 +272,7 @@ tys-returns-in_err-answer-in-Parts-clause-related g t c =
     let a = (r.meaning).ty c.args.a.now in
     let b = (r.meaning).ty c.args.b.now in
     let q = g.R.HasState.state c.tys.new.self in
-    let step = subst (λ z. Stepped M IsFormed r q a b (q.meaning).ty (Ok z)) c.in-Parts.is c.in_ok-answer.ensures.stepped in
+    let step = subst (λ z. Stepped M IsRigid r q a b (q.meaning).ty (Ok z)) c.in-Parts.is c.in_ok-answer.ensures.stepped in
     let just = subst (λ z. StepRecords M r q (q.meaning).ty a b (Ok z)) c.in-Parts.is c.in_ok-answer.ensures.records in
     let x = (q.meaning).ty c.in-Parts.a in
     let y = (q.meaning).ty c.in-Parts.b in
@@ -282,17 +282,17 @@ tys-returns-in_err-answer-in-Parts-clause-related g t c =
     let failed = as_err c.from_residual-in_err-answer-in-Parts.result e.field-0.0
     c.from_residual-in_err-answer-in-Parts.ensures.0 c.from_residual-in_err-answer-in-Parts.ensures.1 in
     subst (λ z. Related M r p r.ambient a b (p.meaning).ty z) (sym failed)
-    (parts_related M IsFormed (g.met.R.TypeRelation.sound c.structurally_relate_tys.new.r ((inner.passes).lawful ((step.passes).lawful c.requires.lawful)))
+    (parts_related M IsRigid (g.met.R.TypeRelation.sound c.structurally_relate_tys.new.r ((inner.passes).lawful ((step.passes).lawful c.requires.lawful)))
     a b x y (p.meaning).ty (Err e.field-0.0) step.passes step.verdict step.exact step.full step.built just inner)
 
-pub tys-tys_done-requires-clause-asked : goal.tys-tys_done-requires-clause-asked
-tys-tys_done-requires-clause-asked g t c =
+pub tys-note_tys-requires-clause-asked : goal.tys-note_tys-requires-clause-asked
+tys-note_tys-requires-clause-asked g t c =
     let r = g.R.HasState.state c.args.r.now in
     let M = g.R.TypeRelation.manner in
     let a = (r.meaning).ty c.args.a.now in
     let b = (r.meaning).ty c.args.b.now in
     let q = g.R.HasState.state c.tys.new.self in
-    let step = subst (λ z. Stepped M IsFormed r q a b (q.meaning).ty (Ok z)) c.in-Parts.is c.in_ok-answer.ensures.stepped in
+    let step = subst (λ z. Stepped M IsRigid r q a b (q.meaning).ty (Ok z)) c.in-Parts.is c.in_ok-answer.ensures.stepped in
     let just = subst (λ z. StepRecords M r q (q.meaning).ty a b (Ok z)) c.in-Parts.is c.in_ok-answer.ensures.records in
     let x = (q.meaning).ty c.in-Parts.a in
     let y = (q.meaning).ty c.in-Parts.b in
@@ -300,7 +300,7 @@ tys-tys_done-requires-clause-asked g t c =
     let z = c.in_ok-answer-in-Parts in
     let inner = subst (λ v. RelatedForms M q p v x y (p.meaning).ty (Ok z.answer)) (step.passes).ambient z.ensures.related in
     let done : Related M r p r.ambient a b (p.meaning).ty (Ok z.answer) =
-    parts_related M IsFormed (g.met.R.TypeRelation.sound c.structurally_relate_tys.new.r ((inner.passes).lawful ((step.passes).lawful c.requires.lawful)))
+    parts_related M IsRigid (g.met.R.TypeRelation.sound c.structurally_relate_tys.new.r ((inner.passes).lawful ((step.passes).lawful c.requires.lawful)))
     a b x y (p.meaning).ty (Ok z.answer) step.passes step.verdict step.exact step.full step.built just inner in
     let same_x : (p.meaning).ty c.in-Parts.a ≡ (q.meaning).ty c.in-Parts.a =
     ((inner.passes).extends).ty c.in-Parts.a ((step.verdict).asked).left_known in
@@ -310,14 +310,14 @@ tys-tys_done-requires-clause-asked g t c =
     (subst (λ v. Asked M p v x y) (sym ((inner.passes).ambient ∙ (step.passes).ambient))
     (asked_later M r.ambient x y inner.passes (step.verdict).asked))
 
-pub tys-tys_done-requires-clause-related : goal.tys-tys_done-requires-clause-related
-tys-tys_done-requires-clause-related g t c =
+pub tys-note_tys-requires-clause-related : goal.tys-note_tys-requires-clause-related
+tys-note_tys-requires-clause-related g t c =
     let r = g.R.HasState.state c.args.r.now in
     let M = g.R.TypeRelation.manner in
     let a = (r.meaning).ty c.args.a.now in
     let b = (r.meaning).ty c.args.b.now in
     let q = g.R.HasState.state c.tys.new.self in
-    let step = subst (λ z. Stepped M IsFormed r q a b (q.meaning).ty (Ok z)) c.in-Parts.is c.in_ok-answer.ensures.stepped in
+    let step = subst (λ z. Stepped M IsRigid r q a b (q.meaning).ty (Ok z)) c.in-Parts.is c.in_ok-answer.ensures.stepped in
     let just = subst (λ z. StepRecords M r q (q.meaning).ty a b (Ok z)) c.in-Parts.is c.in_ok-answer.ensures.records in
     let x = (q.meaning).ty c.in-Parts.a in
     let y = (q.meaning).ty c.in-Parts.b in
@@ -325,7 +325,7 @@ tys-tys_done-requires-clause-related g t c =
     let z = c.in_ok-answer-in-Parts in
     let inner = subst (λ v. RelatedForms M q p v x y (p.meaning).ty (Ok z.answer)) (step.passes).ambient z.ensures.related in
     let done : Related M r p r.ambient a b (p.meaning).ty (Ok z.answer) =
-    parts_related M IsFormed (g.met.R.TypeRelation.sound c.structurally_relate_tys.new.r ((inner.passes).lawful ((step.passes).lawful c.requires.lawful)))
+    parts_related M IsRigid (g.met.R.TypeRelation.sound c.structurally_relate_tys.new.r ((inner.passes).lawful ((step.passes).lawful c.requires.lawful)))
     a b x y (p.meaning).ty (Ok z.answer) step.passes step.verdict step.exact step.full step.built just inner in
     let same_x : (p.meaning).ty c.in-Parts.a ≡ (q.meaning).ty c.in-Parts.a =
     ((inner.passes).extends).ty c.in-Parts.a ((step.verdict).asked).left_known in
@@ -335,14 +335,14 @@ tys-tys_done-requires-clause-related g t c =
     (subst (λ v. Shown M p v x y)
     (sym ((inner.passes).ambient ∙ (step.passes).ambient)) (shown_now M r.ambient x y (p.meaning).ty z.answer inner))
 
-pub tys-tys_done-requires-clause-alone : goal.tys-tys_done-requires-clause-alone
-tys-tys_done-requires-clause-alone g t c =
+pub tys-note_tys-requires-clause-alone : goal.tys-note_tys-requires-clause-alone
+tys-note_tys-requires-clause-alone g t c =
     let r = g.R.HasState.state c.args.r.now in
     let M = g.R.TypeRelation.manner in
     let a = (r.meaning).ty c.args.a.now in
     let b = (r.meaning).ty c.args.b.now in
     let q = g.R.HasState.state c.tys.new.self in
-    let step = subst (λ z. Stepped M IsFormed r q a b (q.meaning).ty (Ok z)) c.in-Parts.is c.in_ok-answer.ensures.stepped in
+    let step = subst (λ z. Stepped M IsRigid r q a b (q.meaning).ty (Ok z)) c.in-Parts.is c.in_ok-answer.ensures.stepped in
     let just = subst (λ z. StepRecords M r q (q.meaning).ty a b (Ok z)) c.in-Parts.is c.in_ok-answer.ensures.records in
     let x = (q.meaning).ty c.in-Parts.a in
     let y = (q.meaning).ty c.in-Parts.b in
@@ -350,7 +350,7 @@ tys-tys_done-requires-clause-alone g t c =
     let z = c.in_ok-answer-in-Parts in
     let inner = subst (λ v. RelatedForms M q p v x y (p.meaning).ty (Ok z.answer)) (step.passes).ambient z.ensures.related in
     let done : Related M r p r.ambient a b (p.meaning).ty (Ok z.answer) =
-    parts_related M IsFormed (g.met.R.TypeRelation.sound c.structurally_relate_tys.new.r ((inner.passes).lawful ((step.passes).lawful c.requires.lawful)))
+    parts_related M IsRigid (g.met.R.TypeRelation.sound c.structurally_relate_tys.new.r ((inner.passes).lawful ((step.passes).lawful c.requires.lawful)))
     a b x y (p.meaning).ty (Ok z.answer) step.passes step.verdict step.exact step.full step.built just inner in
     let same_x : (p.meaning).ty c.in-Parts.a ≡ (q.meaning).ty c.in-Parts.a =
     ((inner.passes).extends).ty c.in-Parts.a ((step.verdict).asked).left_known in
@@ -360,14 +360,14 @@ tys-tys_done-requires-clause-alone g t c =
     (formed_ask_none p.kept.settings p.ambient x y (step.verdict).left_form
     (subst (λ k. IsDeferred k x y → ⊥) (sym (same_settings (inner.passes).kept)) (step.verdict).not_left))
 
-pub tys-returns-in_err-tys_done-in-Parts-clause-related : goal.tys-returns-in_err-tys_done-in-Parts-clause-related
-tys-returns-in_err-tys_done-in-Parts-clause-related g t c =
+pub tys-returns-in_err-note_tys-in-Parts-clause-related : goal.tys-returns-in_err-note_tys-in-Parts-clause-related
+tys-returns-in_err-note_tys-in-Parts-clause-related g t c =
     let r = g.R.HasState.state c.args.r.now in
     let M = g.R.TypeRelation.manner in
     let a = (r.meaning).ty c.args.a.now in
     let b = (r.meaning).ty c.args.b.now in
     let q = g.R.HasState.state c.tys.new.self in
-    let step = subst (λ z. Stepped M IsFormed r q a b (q.meaning).ty (Ok z)) c.in-Parts.is c.in_ok-answer.ensures.stepped in
+    let step = subst (λ z. Stepped M IsRigid r q a b (q.meaning).ty (Ok z)) c.in-Parts.is c.in_ok-answer.ensures.stepped in
     let just = subst (λ z. StepRecords M r q (q.meaning).ty a b (Ok z)) c.in-Parts.is c.in_ok-answer.ensures.records in
     let x = (q.meaning).ty c.in-Parts.a in
     let y = (q.meaning).ty c.in-Parts.b in
@@ -375,25 +375,25 @@ tys-returns-in_err-tys_done-in-Parts-clause-related g t c =
     let z = c.in_ok-answer-in-Parts in
     let inner = subst (λ v. RelatedForms M q p v x y (p.meaning).ty (Ok z.answer)) (step.passes).ambient z.ensures.related in
     let done : Related M r p r.ambient a b (p.meaning).ty (Ok z.answer) =
-    parts_related M IsFormed (g.met.R.TypeRelation.sound c.structurally_relate_tys.new.r ((inner.passes).lawful ((step.passes).lawful c.requires.lawful)))
+    parts_related M IsRigid (g.met.R.TypeRelation.sound c.structurally_relate_tys.new.r ((inner.passes).lawful ((step.passes).lawful c.requires.lawful)))
     a b x y (p.meaning).ty (Ok z.answer) step.passes step.verdict step.exact step.full step.built just inner in
-    let u = g.R.HasState.state c.tys_done.new.self in
-    let e = c.in_err-tys_done-in-Parts in
-    let failed = as_err c.from_residual-in_err-tys_done-in-Parts.result e.field-0.0
-    c.from_residual-in_err-tys_done-in-Parts.ensures.0 c.from_residual-in_err-tys_done-in-Parts.ensures.1 in
+    let u = g.R.HasState.state c.note_tys.new.self in
+    let e = c.in_err-note_tys-in-Parts in
+    let failed = as_err c.from_residual-in_err-note_tys-in-Parts.result e.field-0.0
+    c.from_residual-in_err-note_tys-in-Parts.ensures.0 c.from_residual-in_err-note_tys-in-Parts.ensures.1 in
     subst (λ z. Related M r u r.ambient a b (u.meaning).ty z) (sym failed)
     (noted_refused M r.ambient a b (p.meaning).ty z.answer done (Err e.field-0.0) e.ensures
     (built_again r.store a b (step.verdict).built (((inner.passes).extends).ty c.in-Parts.a ((step.verdict).asked).left_known)
     (((inner.passes).extends).ty c.in-Parts.b ((step.verdict).asked).right_known)) (u.meaning).ty e.field-0.0 refl)
 
-pub tys-returns-in_ok-tys_done-in-Parts-clause-related : goal.tys-returns-in_ok-tys_done-in-Parts-clause-related
-tys-returns-in_ok-tys_done-in-Parts-clause-related g t c =
+pub tys-returns-in_ok-note_tys-in-Parts-clause-related : goal.tys-returns-in_ok-note_tys-in-Parts-clause-related
+tys-returns-in_ok-note_tys-in-Parts-clause-related g t c =
     let r = g.R.HasState.state c.args.r.now in
     let M = g.R.TypeRelation.manner in
     let a = (r.meaning).ty c.args.a.now in
     let b = (r.meaning).ty c.args.b.now in
     let q = g.R.HasState.state c.tys.new.self in
-    let step = subst (λ z. Stepped M IsFormed r q a b (q.meaning).ty (Ok z)) c.in-Parts.is c.in_ok-answer.ensures.stepped in
+    let step = subst (λ z. Stepped M IsRigid r q a b (q.meaning).ty (Ok z)) c.in-Parts.is c.in_ok-answer.ensures.stepped in
     let just = subst (λ z. StepRecords M r q (q.meaning).ty a b (Ok z)) c.in-Parts.is c.in_ok-answer.ensures.records in
     let x = (q.meaning).ty c.in-Parts.a in
     let y = (q.meaning).ty c.in-Parts.b in
@@ -401,10 +401,10 @@ tys-returns-in_ok-tys_done-in-Parts-clause-related g t c =
     let z = c.in_ok-answer-in-Parts in
     let inner = subst (λ v. RelatedForms M q p v x y (p.meaning).ty (Ok z.answer)) (step.passes).ambient z.ensures.related in
     let done : Related M r p r.ambient a b (p.meaning).ty (Ok z.answer) =
-    parts_related M IsFormed (g.met.R.TypeRelation.sound c.structurally_relate_tys.new.r ((inner.passes).lawful ((step.passes).lawful c.requires.lawful)))
+    parts_related M IsRigid (g.met.R.TypeRelation.sound c.structurally_relate_tys.new.r ((inner.passes).lawful ((step.passes).lawful c.requires.lawful)))
     a b x y (p.meaning).ty (Ok z.answer) step.passes step.verdict step.exact step.full step.built just inner in
-    let u = g.R.HasState.state c.tys_done.new.self in
-    let n = c.in_ok-tys_done-in-Parts in
+    let u = g.R.HasState.state c.note_tys.new.self in
+    let n = c.in_ok-note_tys-in-Parts in
     noted_related M r.ambient a b (p.meaning).ty z.answer done (Ok n.field-0) n.ensures
     (built_again r.store a b (step.verdict).built (((inner.passes).extends).ty c.in-Parts.a ((step.verdict).asked).left_known)
     (((inner.passes).extends).ty c.in-Parts.b ((step.verdict).asked).right_known)) (u.meaning).ty
@@ -417,14 +417,14 @@ tys-returns-in_ok-tys_done-in-Parts-clause-related g t c =
     (((inner.passes).extends).ty c.in-Parts.b ((step.verdict).asked).right_known)
     (manner_then M (λ z. z.relates_agreeing) step.passes promised) st (((step.verdict).leads).agrees st began).1)
 
-pub tys-tys_done-requires-in-Again-clause-asked : goal.tys-tys_done-requires-in-Again-clause-asked
-tys-tys_done-requires-in-Again-clause-asked g t c =
+pub tys-note_tys-requires-in-Again-clause-asked : goal.tys-note_tys-requires-in-Again-clause-asked
+tys-note_tys-requires-in-Again-clause-asked g t c =
     let r = g.R.HasState.state c.args.r.now in
     let M = g.R.TypeRelation.manner in
     let a = (r.meaning).ty c.args.a.now in
     let b = (r.meaning).ty c.args.b.now in
     let q = g.R.HasState.state c.tys.new.self in
-    let step = subst (λ z. Stepped M IsFormed r q a b (q.meaning).ty (Ok z)) c.in-Again.is c.in_ok-answer.ensures.stepped in
+    let step = subst (λ z. Stepped M IsRigid r q a b (q.meaning).ty (Ok z)) c.in-Again.is c.in_ok-answer.ensures.stepped in
     let just = subst (λ z. StepRecords M r q (q.meaning).ty a b (Ok z)) c.in-Again.is c.in_ok-answer.ensures.records in
     let x = (q.meaning).ty c.in-Again.x in
     let y = (q.meaning).ty c.in-Again.y in
@@ -448,14 +448,14 @@ tys-tys_done-requires-in-Again-clause-asked g t c =
     (subst (λ v. Asked M p v k l) (sym ((inner.passes).ambient ∙ (step.passes).ambient))
     (asked_later M r.ambient k l inner.passes (step.verdict).read_asked))
 
-pub tys-tys_done-requires-in-Again-clause-related : goal.tys-tys_done-requires-in-Again-clause-related
-tys-tys_done-requires-in-Again-clause-related g t c =
+pub tys-note_tys-requires-in-Again-clause-related : goal.tys-note_tys-requires-in-Again-clause-related
+tys-note_tys-requires-in-Again-clause-related g t c =
     let r = g.R.HasState.state c.args.r.now in
     let M = g.R.TypeRelation.manner in
     let a = (r.meaning).ty c.args.a.now in
     let b = (r.meaning).ty c.args.b.now in
     let q = g.R.HasState.state c.tys.new.self in
-    let step = subst (λ z. Stepped M IsFormed r q a b (q.meaning).ty (Ok z)) c.in-Again.is c.in_ok-answer.ensures.stepped in
+    let step = subst (λ z. Stepped M IsRigid r q a b (q.meaning).ty (Ok z)) c.in-Again.is c.in_ok-answer.ensures.stepped in
     let just = subst (λ z. StepRecords M r q (q.meaning).ty a b (Ok z)) c.in-Again.is c.in_ok-answer.ensures.records in
     let x = (q.meaning).ty c.in-Again.x in
     let y = (q.meaning).ty c.in-Again.y in
@@ -479,14 +479,14 @@ tys-tys_done-requires-in-Again-clause-related g t c =
     (subst (λ v. Shown M p v k l)
     (sym ((inner.passes).ambient ∙ (step.passes).ambient)) (again_shown M a b k l x y o v step.passes step.verdict step.exact step.built (arg_tree p.meaning) c.in_ok-relate_again-in-Again.field-0 inner))
 
-pub tys-tys_done-requires-in-Again-clause-alone : goal.tys-tys_done-requires-in-Again-clause-alone
-tys-tys_done-requires-in-Again-clause-alone g t c =
+pub tys-note_tys-requires-in-Again-clause-alone : goal.tys-note_tys-requires-in-Again-clause-alone
+tys-note_tys-requires-in-Again-clause-alone g t c =
     let r = g.R.HasState.state c.args.r.now in
     let M = g.R.TypeRelation.manner in
     let a = (r.meaning).ty c.args.a.now in
     let b = (r.meaning).ty c.args.b.now in
     let q = g.R.HasState.state c.tys.new.self in
-    let step = subst (λ z. Stepped M IsFormed r q a b (q.meaning).ty (Ok z)) c.in-Again.is c.in_ok-answer.ensures.stepped in
+    let step = subst (λ z. Stepped M IsRigid r q a b (q.meaning).ty (Ok z)) c.in-Again.is c.in_ok-answer.ensures.stepped in
     let just = subst (λ z. StepRecords M r q (q.meaning).ty a b (Ok z)) c.in-Again.is c.in_ok-answer.ensures.records in
     let x = (q.meaning).ty c.in-Again.x in
     let y = (q.meaning).ty c.in-Again.y in
@@ -510,14 +510,14 @@ tys-tys_done-requires-in-Again-clause-alone g t c =
     (subst₂ (λ j w. AsksNoneAlone j w k l) (sym (same_settings ((inner.passes).kept ∙ (step.passes).kept)))
     (sym ((inner.passes).ambient ∙ (step.passes).ambient)) (step.verdict).asks_none)
 
-pub tys-returns-in_err-tys_done-in-Again-clause-related : goal.tys-returns-in_err-tys_done-in-Again-clause-related
-tys-returns-in_err-tys_done-in-Again-clause-related g t c =
+pub tys-returns-in_err-note_tys-in-Again-clause-related : goal.tys-returns-in_err-note_tys-in-Again-clause-related
+tys-returns-in_err-note_tys-in-Again-clause-related g t c =
     let r = g.R.HasState.state c.args.r.now in
     let M = g.R.TypeRelation.manner in
     let a = (r.meaning).ty c.args.a.now in
     let b = (r.meaning).ty c.args.b.now in
     let q = g.R.HasState.state c.tys.new.self in
-    let step = subst (λ z. Stepped M IsFormed r q a b (q.meaning).ty (Ok z)) c.in-Again.is c.in_ok-answer.ensures.stepped in
+    let step = subst (λ z. Stepped M IsRigid r q a b (q.meaning).ty (Ok z)) c.in-Again.is c.in_ok-answer.ensures.stepped in
     let just = subst (λ z. StepRecords M r q (q.meaning).ty a b (Ok z)) c.in-Again.is c.in_ok-answer.ensures.records in
     let x = (q.meaning).ty c.in-Again.x in
     let y = (q.meaning).ty c.in-Again.y in
@@ -533,23 +533,23 @@ tys-returns-in_err-tys_done-in-Again-clause-related g t c =
     let done : Related M r p r.ambient a b (p.meaning).ty (Ok c.in-Again.answer) =
     again_related M a b k l x y o v step.passes step.verdict step.exact step.built (arg_tree p.meaning) c.in_ok-relate_again-in-Again.field-0 (p.meaning).ty
     c.in-Again.answer same_o just inner in
-    let u = g.R.HasState.state c.tys_done-in-Again.new.self in
-    let e = c.in_err-tys_done-in-Again in
-    let failed = as_err c.from_residual-in_err-tys_done-in-Again.result e.field-0.0
-    c.from_residual-in_err-tys_done-in-Again.ensures.0 c.from_residual-in_err-tys_done-in-Again.ensures.1 in
+    let u = g.R.HasState.state c.note_tys-in-Again.new.self in
+    let e = c.in_err-note_tys-in-Again in
+    let failed = as_err c.from_residual-in_err-note_tys-in-Again.result e.field-0.0
+    c.from_residual-in_err-note_tys-in-Again.ensures.0 c.from_residual-in_err-note_tys-in-Again.ensures.1 in
     subst (λ z. Related M r u r.ambient a b (u.meaning).ty z) (sym failed)
     (noted_refused M r.ambient a b (p.meaning).ty c.in-Again.answer done (Err e.field-0.0) e.ensures
     (built_again r.store a b (step.verdict).read_built (((inner.passes).extends).ty c.in-Again.a ((step.verdict).read_asked).left_known)
     (((inner.passes).extends).ty c.in-Again.b ((step.verdict).read_asked).right_known)) (u.meaning).ty e.field-0.0 refl)
 
-pub tys-returns-in_ok-tys_done-in-Again-clause-related : goal.tys-returns-in_ok-tys_done-in-Again-clause-related
-tys-returns-in_ok-tys_done-in-Again-clause-related g t c =
+pub tys-returns-in_ok-note_tys-in-Again-clause-related : goal.tys-returns-in_ok-note_tys-in-Again-clause-related
+tys-returns-in_ok-note_tys-in-Again-clause-related g t c =
     let r = g.R.HasState.state c.args.r.now in
     let M = g.R.TypeRelation.manner in
     let a = (r.meaning).ty c.args.a.now in
     let b = (r.meaning).ty c.args.b.now in
     let q = g.R.HasState.state c.tys.new.self in
-    let step = subst (λ z. Stepped M IsFormed r q a b (q.meaning).ty (Ok z)) c.in-Again.is c.in_ok-answer.ensures.stepped in
+    let step = subst (λ z. Stepped M IsRigid r q a b (q.meaning).ty (Ok z)) c.in-Again.is c.in_ok-answer.ensures.stepped in
     let just = subst (λ z. StepRecords M r q (q.meaning).ty a b (Ok z)) c.in-Again.is c.in_ok-answer.ensures.records in
     let x = (q.meaning).ty c.in-Again.x in
     let y = (q.meaning).ty c.in-Again.y in
@@ -565,8 +565,8 @@ tys-returns-in_ok-tys_done-in-Again-clause-related g t c =
     let done : Related M r p r.ambient a b (p.meaning).ty (Ok c.in-Again.answer) =
     again_related M a b k l x y o v step.passes step.verdict step.exact step.built (arg_tree p.meaning) c.in_ok-relate_again-in-Again.field-0 (p.meaning).ty
     c.in-Again.answer same_o just inner in
-    let u = g.R.HasState.state c.tys_done-in-Again.new.self in
-    let n = c.in_ok-tys_done-in-Again in
+    let u = g.R.HasState.state c.note_tys-in-Again.new.self in
+    let n = c.in_ok-note_tys-in-Again in
     noted_related M r.ambient a b (p.meaning).ty c.in-Again.answer done (Ok n.field-0) n.ensures
     (built_again r.store a b (step.verdict).read_built (((inner.passes).extends).ty c.in-Again.a ((step.verdict).read_asked).left_known)
     (((inner.passes).extends).ty c.in-Again.b ((step.verdict).read_asked).right_known)) (u.meaning).ty
@@ -611,31 +611,31 @@ tys-returns-in_err-answer-in-Parts-clause-registers g t c =
     (as_err c.from_residual-in_err-answer-in-Parts.result c.in_err-answer-in-Parts.field-0.0
     c.from_residual-in_err-answer-in-Parts.ensures.0 c.from_residual-in_err-answer-in-Parts.ensures.1))
 
-pub tys-returns-in_err-tys_done-in-Parts-clause-registers : goal.tys-returns-in_err-tys_done-in-Parts-clause-registers
-tys-returns-in_err-tys_done-in-Parts-clause-registers g t c =
+pub tys-returns-in_err-note_tys-in-Parts-clause-registers : goal.tys-returns-in_err-note_tys-in-Parts-clause-registers
+tys-returns-in_err-note_tys-in-Parts-clause-registers g t c =
     let r = g.R.HasState.state c.args.r.now in
     let M = g.R.TypeRelation.manner in
     let a = (r.meaning).ty c.args.a.now in
     let b = (r.meaning).ty c.args.b.now in
     let q = g.R.HasState.state c.tys.new.self in
-    let s = g.R.HasState.state c.tys_done.new.self in
+    let s = g.R.HasState.state c.note_tys.new.self in
     parts_register M r q a b s (q.meaning).ty c.in-Parts.a c.in-Parts.b
-    c.from_residual-in_err-tys_done-in-Parts.result
+    c.from_residual-in_err-note_tys-in-Parts.result
     (subst (λ z. StepsAtOnce M r q (q.meaning).ty a b (Ok z)) c.in-Parts.is c.in_ok-answer.ensures.registers)
-    (λ promised. none_of_fault _ c.from_residual-in_err-tys_done-in-Parts.result c.in_err-tys_done-in-Parts.field-0.0
-    (as_err c.from_residual-in_err-tys_done-in-Parts.result c.in_err-tys_done-in-Parts.field-0.0
-    c.from_residual-in_err-tys_done-in-Parts.ensures.0 c.from_residual-in_err-tys_done-in-Parts.ensures.1))
+    (λ promised. none_of_fault _ c.from_residual-in_err-note_tys-in-Parts.result c.in_err-note_tys-in-Parts.field-0.0
+    (as_err c.from_residual-in_err-note_tys-in-Parts.result c.in_err-note_tys-in-Parts.field-0.0
+    c.from_residual-in_err-note_tys-in-Parts.ensures.0 c.from_residual-in_err-note_tys-in-Parts.ensures.1))
 
-pub tys-returns-in_ok-tys_done-in-Parts-clause-registers : goal.tys-returns-in_ok-tys_done-in-Parts-clause-registers
-tys-returns-in_ok-tys_done-in-Parts-clause-registers g t c =
+pub tys-returns-in_ok-note_tys-in-Parts-clause-registers : goal.tys-returns-in_ok-note_tys-in-Parts-clause-registers
+tys-returns-in_ok-note_tys-in-Parts-clause-registers g t c =
     let r = g.R.HasState.state c.args.r.now in
     let M = g.R.TypeRelation.manner in
     let a = (r.meaning).ty c.args.a.now in
     let b = (r.meaning).ty c.args.b.now in
     let q = g.R.HasState.state c.tys.new.self in
-    let s = g.R.HasState.state c.tys_done.new.self in
-    let step = subst (λ z. Stepped M IsFormed r q a b (q.meaning).ty (Ok z)) c.in-Parts.is c.in_ok-answer.ensures.stepped in
-    let n = c.in_ok-tys_done-in-Parts.ensures in
+    let s = g.R.HasState.state c.note_tys.new.self in
+    let step = subst (λ z. Stepped M IsRigid r q a b (q.meaning).ty (Ok z)) c.in-Parts.is c.in_ok-answer.ensures.stepped in
+    let n = c.in_ok-note_tys-in-Parts.ensures in
     parts_register M r q a b s (q.meaning).ty c.in-Parts.a c.in-Parts.b
     (Ok c.in_ok-answer-in-Parts.answer)
     (subst (λ z. StepsAtOnce M r q (q.meaning).ty a b (Ok z)) c.in-Parts.is c.in_ok-answer.ensures.registers)
@@ -656,27 +656,27 @@ tys-returns-in_err-relate_again-in-Again-clause-registers g t c =
     c.from_residual-in_err-relate_again-in-Again.result
     (subst (λ z. StepsAtOnce M r q (q.meaning).ty a b (Ok z)) c.in-Again.is c.in_ok-answer.ensures.registers)
 
-pub tys-returns-in_err-tys_done-in-Again-clause-registers : goal.tys-returns-in_err-tys_done-in-Again-clause-registers
-tys-returns-in_err-tys_done-in-Again-clause-registers g t c =
+pub tys-returns-in_err-note_tys-in-Again-clause-registers : goal.tys-returns-in_err-note_tys-in-Again-clause-registers
+tys-returns-in_err-note_tys-in-Again-clause-registers g t c =
     let r = g.R.HasState.state c.args.r.now in
     let M = g.R.TypeRelation.manner in
     let a = (r.meaning).ty c.args.a.now in
     let b = (r.meaning).ty c.args.b.now in
     let q = g.R.HasState.state c.tys.new.self in
-    let s = g.R.HasState.state c.tys_done-in-Again.new.self in
+    let s = g.R.HasState.state c.note_tys-in-Again.new.self in
     again_registers M r q a b s (q.meaning).ty c.in-Again.a c.in-Again.b c.in-Again.x c.in-Again.y
     c.in-Again.answer c.in-Again.variance
-    c.from_residual-in_err-tys_done-in-Again.result
+    c.from_residual-in_err-note_tys-in-Again.result
     (subst (λ z. StepsAtOnce M r q (q.meaning).ty a b (Ok z)) c.in-Again.is c.in_ok-answer.ensures.registers)
 
-pub tys-returns-in_ok-tys_done-in-Again-clause-registers : goal.tys-returns-in_ok-tys_done-in-Again-clause-registers
-tys-returns-in_ok-tys_done-in-Again-clause-registers g t c =
+pub tys-returns-in_ok-note_tys-in-Again-clause-registers : goal.tys-returns-in_ok-note_tys-in-Again-clause-registers
+tys-returns-in_ok-note_tys-in-Again-clause-registers g t c =
     let r = g.R.HasState.state c.args.r.now in
     let M = g.R.TypeRelation.manner in
     let a = (r.meaning).ty c.args.a.now in
     let b = (r.meaning).ty c.args.b.now in
     let q = g.R.HasState.state c.tys.new.self in
-    let s = g.R.HasState.state c.tys_done-in-Again.new.self in
+    let s = g.R.HasState.state c.note_tys-in-Again.new.self in
     again_registers M r q a b s (q.meaning).ty c.in-Again.a c.in-Again.b c.in-Again.x c.in-Again.y
     c.in-Again.answer c.in-Again.variance
     (Ok c.in-Again.answer)
@@ -2589,11 +2589,11 @@ relate_parts_with_variance-returns g t c =
           there.meaning ((c.relate_parts-answer.ensures).alike o);
     }
 
-pub relate_parts-the_arg-requires : goal.relate_parts-the_arg-requires
-relate_parts-the_arg-requires g t c = are_args c.args.a.now ((c.in-Argument.ensures.argument).0 refl)
+pub relate_parts-expect_arg-requires : goal.relate_parts-expect_arg-requires
+relate_parts-expect_arg-requires g t c = are_args c.args.a.now ((c.in-Argument.ensures.argument).0 refl)
 
-pub relate_parts-the_arg-requires-in-Argument : goal.relate_parts-the_arg-requires-in-Argument
-relate_parts-the_arg-requires-in-Argument g t c = are_args c.args.b.now
+pub relate_parts-expect_arg-requires-in-Argument : goal.relate_parts-expect_arg-requires-in-Argument
+relate_parts-expect_arg-requires-in-Argument g t c = are_args c.args.b.now
     (paired_args c.args.a.now c.args.b.now ((c.in-Argument.ensures.argument).0 refl) c.requires.paired)
 
 pub relate_parts-relate_again-requires : goal.relate_parts-relate_again-requires
@@ -2603,10 +2603,10 @@ relate_parts-relate_again-requires g t c κs within =
     let a = part_tree r.meaning c.args.a.now in
     let b = part_tree r.meaning c.args.b.now in
     let arg : IsArgPart c.args.a.now = (c.in-Argument.ensures.argument).0 refl in
-    let X = c.the_arg.result in
-    let Y = c.the_arg-in-Argument.result in
-    let ea : a ≡ arg_tree r.meaning X = ap (part_tree r.meaning) (sym c.the_arg.ensures) ∙ arg_part r.meaning X in
-    let eb : b ≡ arg_tree r.meaning Y = ap (part_tree r.meaning) (sym c.the_arg-in-Argument.ensures) ∙ arg_part r.meaning Y in
+    let X = c.expect_arg.result in
+    let Y = c.expect_arg-in-Argument.result in
+    let ea : a ≡ arg_tree r.meaning X = ap (part_tree r.meaning) (sym c.expect_arg.ensures) ∙ arg_part r.meaning X in
+    let eb : b ≡ arg_tree r.meaning Y = ap (part_tree r.meaning) (sym c.expect_arg-in-Argument.ensures) ∙ arg_part r.meaning Y in
     let lawful = c.requires.lawful in
     let decides = c.requires.decides in
     let asked = subst (λ z. Asked M r z (arg_tree r.meaning X) (arg_tree r.meaning Y)) (sym (covariantly r.ambient))
@@ -2644,10 +2644,10 @@ relate_parts-returns-in_ok-answer-in-Argument g t c =
     let a = part_tree r.meaning c.args.a.now in
     let b = part_tree r.meaning c.args.b.now in
     let arg : IsArgPart c.args.a.now = (c.in-Argument.ensures.argument).0 refl in
-    let X = c.the_arg.result in
-    let Y = c.the_arg-in-Argument.result in
-    let ea : a ≡ arg_tree r.meaning X = ap (part_tree r.meaning) (sym c.the_arg.ensures) ∙ arg_part r.meaning X in
-    let eb : b ≡ arg_tree r.meaning Y = ap (part_tree r.meaning) (sym c.the_arg-in-Argument.ensures) ∙ arg_part r.meaning Y in
+    let X = c.expect_arg.result in
+    let Y = c.expect_arg-in-Argument.result in
+    let ea : a ≡ arg_tree r.meaning X = ap (part_tree r.meaning) (sym c.expect_arg.ensures) ∙ arg_part r.meaning X in
+    let eb : b ≡ arg_tree r.meaning Y = ap (part_tree r.meaning) (sym c.expect_arg-in-Argument.ensures) ∙ arg_part r.meaning Y in
     let q = g.R.HasState.state c.relate_again.new.r in
     let n = c.in_ok-answer-in-Argument in
     let inner : Related M r q r.ambient (arg_tree r.meaning X) (arg_tree r.meaning Y) (arg_tree q.meaning) (Ok n.answer) =
@@ -2655,7 +2655,7 @@ relate_parts-returns-in_ok-answer-in-Argument g t c =
     (covariantly r.ambient) (n.ensures).related in
     let sort : part_sort c.of_arg.result ≡ part_sort c.args.a.now =
     sort_as_arg c.of_arg.result n.answer c.of_arg.ensures ∙ (n.ensures).kind
-    ∙ sym (sort_as_arg c.args.a.now X (sym c.the_arg.ensures)) in
+    ∙ sym (sort_as_arg c.args.a.now X (sym c.expect_arg.ensures)) in
     record {
       related = subst₂ (λ x y. Related M r q r.ambient x y (part_tree q.meaning) (Ok c.of_arg.result)) (sym ea) (sym eb)
           (retold M r.ambient (arg_tree r.meaning X) (arg_tree r.meaning Y) (arg_tree q.meaning) n.answer
@@ -2673,10 +2673,10 @@ relate_parts-returns-in_err-answer-in-Argument g t c =
     let a = part_tree r.meaning c.args.a.now in
     let b = part_tree r.meaning c.args.b.now in
     let arg : IsArgPart c.args.a.now = (c.in-Argument.ensures.argument).0 refl in
-    let X = c.the_arg.result in
-    let Y = c.the_arg-in-Argument.result in
-    let ea : a ≡ arg_tree r.meaning X = ap (part_tree r.meaning) (sym c.the_arg.ensures) ∙ arg_part r.meaning X in
-    let eb : b ≡ arg_tree r.meaning Y = ap (part_tree r.meaning) (sym c.the_arg-in-Argument.ensures) ∙ arg_part r.meaning Y in
+    let X = c.expect_arg.result in
+    let Y = c.expect_arg-in-Argument.result in
+    let ea : a ≡ arg_tree r.meaning X = ap (part_tree r.meaning) (sym c.expect_arg.ensures) ∙ arg_part r.meaning X in
+    let eb : b ≡ arg_tree r.meaning Y = ap (part_tree r.meaning) (sym c.expect_arg-in-Argument.ensures) ∙ arg_part r.meaning Y in
     let q = g.R.HasState.state c.relate_again.new.r in
     let n = c.in_err-answer-in-Argument in
     let inner : Related M r q r.ambient (arg_tree r.meaning X) (arg_tree r.meaning Y) (arg_tree q.meaning) (Err n.field-0.0) =
@@ -2889,8 +2889,8 @@ structurally_relate_tys-relate_in_order-requires g t c κs within =
       ),
     )
 
-pub structurally_relate_tys-the_ty-requires : goal.structurally_relate_tys-the_ty-requires
-structurally_relate_tys-the_ty-requires g t c = (c.in_ok-relate_in_order.ensures).sort
+pub structurally_relate_tys-expect_ty-requires : goal.structurally_relate_tys-expect_ty-requires
+structurally_relate_tys-expect_ty-requires g t c = (c.in_ok-relate_in_order.ensures).sort
 
 pub structurally_relate_tys-returns-in_err-relate_in_order-clause-related : goal.structurally_relate_tys-returns-in_err-relate_in_order-clause-related
 structurally_relate_tys-returns-in_err-relate_in_order-clause-related g t c =
@@ -2914,8 +2914,8 @@ structurally_relate_tys-returns-then-in_order-clause-related g t c =
     let b = (r.meaning).ty c.args.b.now in
     let q = g.R.HasState.state c.relate_in_order.new.r in
     let n = c.in_ok-relate_in_order in
-    retold M r.ambient a b (part_tree q.meaning) n.field-0 (q.meaning).ty c.the_ty.result
-    (ap (part_tree q.meaning) c.the_ty.ensures) (n.ensures).related
+    retold M r.ambient a b (part_tree q.meaning) n.field-0 (q.meaning).ty c.expect_ty.result
+    (ap (part_tree q.meaning) c.expect_ty.ensures) (n.ensures).related
 
 pub structurally_relate_tys-part_of-x-requires-clause-over_args : goal.structurally_relate_tys-part_of-x-requires-clause-over_args
 structurally_relate_tys-part_of-x-requires-clause-over_args g t c =
@@ -3288,7 +3288,7 @@ tys-returns-in_err-answer-clause-related g t c =
     let f = n.field-0.0 in
     let res = c.from_residual in
     subst (Related M r q r.ambient a b (q.meaning).ty) (sym (as_err res.result f res.ensures.0 res.ensures.1))
-    (step_refused M IsFormed a b (q.meaning).ty (q.meaning).ty f n.ensures.stepped)
+    (step_refused M IsRigid a b (q.meaning).ty (q.meaning).ty f n.ensures.stepped)
 
 pub relate-returns-in_err-regions-in-Lifetime-clause-related : goal.relate-returns-in_err-regions-in-Lifetime-clause-related
 relate-returns-in_err-regions-in-Lifetime-clause-related g t c =

@@ -10,8 +10,8 @@ use Rattle.relation_recursion.proofs.structural.existentials.Goals as goal
 pub relate_parts-requires-clause-paired : goal.relate_parts-requires-clause-paired
 relate_parts-requires-clause-paired g c = inr refl
 
-pub the_existential-requires : goal.the_existential-requires
-the_existential-requires g c = (c.in_ok-relate_parts.ensures).sort
+pub expect_existential-requires : goal.expect_existential-requires
+expect_existential-requires g c = (c.in_ok-relate_parts.ensures).sort
 
 pub returns-in_err-relate_parts : goal.returns-in_err-relate_parts
 returns-in_err-relate_parts g c =
@@ -40,6 +40,6 @@ returns g c =
     let n = c.in_ok-relate_parts in
     record {
       related = retold M r.ambient a b (part_tree q.meaning) n.field-0 (existential_tree q.meaning)
-          c.the_existential.result (ap (part_tree q.meaning) c.the_existential.ensures) (n.ensures).related;
-      form = same_form c.the_existential.result c.args.a.now n.field-0 c.the_existential.ensures (n.ensures).predicate;
+          c.expect_existential.result (ap (part_tree q.meaning) c.expect_existential.ensures) (n.ensures).related;
+      form = same_form c.expect_existential.result c.args.a.now n.field-0 c.expect_existential.ensures (n.ensures).predicate;
     }

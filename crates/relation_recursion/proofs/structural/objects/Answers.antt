@@ -9,8 +9,8 @@ use Rattle.relation_recursion.proofs.structural.objects.Goals as goal
 pub relate_parts-requires-clause-paired : goal.relate_parts-requires-clause-paired
 relate_parts-requires-clause-paired g c = inr refl
 
-pub the_object-requires : goal.the_object-requires
-the_object-requires g c = (c.in_ok-relate_parts.ensures).sort
+pub expect_object-requires : goal.expect_object-requires
+expect_object-requires g c = (c.in_ok-relate_parts.ensures).sort
 
 pub returns-in_err-relate_parts : goal.returns-in_err-relate_parts
 returns-in_err-relate_parts g c =
@@ -34,5 +34,5 @@ returns g c =
     let b = node object ((r.meaning).existential_predicates c.args.b.now) in
     let q = g.R.HasState.state c.relate_parts.new.r in
     let n = c.in_ok-relate_parts in
-    retold M r.ambient a b (part_tree q.meaning) n.field-0 (λ k. node object ((q.meaning).existential_predicates k)) c.the_object.result
-    (ap (part_tree q.meaning) c.the_object.ensures) (n.ensures).related
+    retold M r.ambient a b (part_tree q.meaning) n.field-0 (λ k. node object ((q.meaning).existential_predicates k)) c.expect_object.result
+    (ap (part_tree q.meaning) c.expect_object.ensures) (n.ensures).related

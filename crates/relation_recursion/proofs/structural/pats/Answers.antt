@@ -7,8 +7,8 @@ use Rattle.relation_recursion.proofs.structural.pats.Goals as goal
 pub relate_parts-requires-clause-paired : goal.relate_parts-requires-clause-paired
 relate_parts-requires-clause-paired g c = inr refl
 
-pub the_pat-requires : goal.the_pat-requires
-the_pat-requires g c = (c.in_ok-relate_parts.ensures).sort
+pub expect_pat-requires : goal.expect_pat-requires
+expect_pat-requires g c = (c.in_ok-relate_parts.ensures).sort
 
 pub returns-in_err-relate_parts : goal.returns-in_err-relate_parts
 returns-in_err-relate_parts g c =
@@ -31,5 +31,5 @@ returns g c =
     let b = (r.meaning).pat c.args.b.now in
     let q = g.R.HasState.state c.relate_parts.new.r in
     let n = c.in_ok-relate_parts in
-    retold M r.ambient a b (part_tree q.meaning) n.field-0 (q.meaning).pat c.the_pat.result
-    (ap (part_tree q.meaning) c.the_pat.ensures) (n.ensures).related
+    retold M r.ambient a b (part_tree q.meaning) n.field-0 (q.meaning).pat c.expect_pat.result
+    (ap (part_tree q.meaning) c.expect_pat.ensures) (n.ensures).related

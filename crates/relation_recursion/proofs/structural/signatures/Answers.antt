@@ -8,8 +8,8 @@ use Rattle.relation_recursion.proofs.structural.signatures.Goals as goal
 pub relate_parts-requires-clause-paired : goal.relate_parts-requires-clause-paired
 relate_parts-requires-clause-paired g c = inr refl
 
-pub the_signature-requires : goal.the_signature-requires
-the_signature-requires g c = (c.in_ok-relate_parts.ensures).sort
+pub expect_signature-requires : goal.expect_signature-requires
+expect_signature-requires g c = (c.in_ok-relate_parts.ensures).sort
 
 pub returns-in_err-relate_parts : goal.returns-in_err-relate_parts
 returns-in_err-relate_parts g c =
@@ -33,5 +33,5 @@ returns g c =
     let b = signature_tree r.meaning c.args.b.now in
     let q = g.R.HasState.state c.relate_parts.new.r in
     let n = c.in_ok-relate_parts in
-    retold M r.ambient a b (part_tree q.meaning) n.field-0 (signature_tree q.meaning) c.the_signature.result
-    (ap (part_tree q.meaning) c.the_signature.ensures) (n.ensures).related
+    retold M r.ambient a b (part_tree q.meaning) n.field-0 (signature_tree q.meaning) c.expect_signature.result
+    (ap (part_tree q.meaning) c.expect_signature.ensures) (n.ensures).related

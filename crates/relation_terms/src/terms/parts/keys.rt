@@ -90,7 +90,7 @@ pub fn of_body<X: Copy, D: Copy>(body: &Body<X, D>) -> Part<X, D>
 }
 
 // The term of a predicate that a part is.
-pub fn the_term<X: Copy, D: Copy>(part: &Part<X, D>) -> TermKind<X>
+pub fn expect_term<X: Copy, D: Copy>(part: &Part<X, D>) -> TermKind<X>
     requires { IsTermPart part.now }
     ensures { part_of_term result ≡ part.now }
 {
@@ -102,7 +102,9 @@ pub fn the_term<X: Copy, D: Copy>(part: &Part<X, D>) -> TermKind<X>
 }
 
 // The predicate of a trait object that a part is.
-pub fn the_predicate<X: Copy, D: Copy>(part: &Part<X, D>) -> Binder<X, ExistentialPredicate<X, D>>
+pub fn expect_predicate<X: Copy, D: Copy>(
+    part: &Part<X, D>,
+) -> Binder<X, ExistentialPredicate<X, D>>
     requires { ArePredicates (part.now ∷ []) }
     ensures { part_of_predicate result ≡ part.now }
 {
@@ -116,7 +118,7 @@ pub fn the_predicate<X: Copy, D: Copy>(part: &Part<X, D>) -> Binder<X, Existenti
 }
 
 /// The generic argument that a part is.
-pub fn the_arg<X: Copy, D: Copy>(part: &Part<X, D>) -> GenericArgKind<X>
+pub fn expect_arg<X: Copy, D: Copy>(part: &Part<X, D>) -> GenericArgKind<X>
     requires { AreArgs (part.now ∷ []) }
     ensures { part_of_arg result ≡ part.now }
 {
@@ -129,7 +131,7 @@ pub fn the_arg<X: Copy, D: Copy>(part: &Part<X, D>) -> GenericArgKind<X>
 }
 
 /// The region that a part is.
-pub fn the_region<X: Copy, D: Copy>(part: &Part<X, D>) -> RegionKey<X>
+pub fn expect_region<X: Copy, D: Copy>(part: &Part<X, D>) -> RegionKey<X>
     requires { part_sort part.now ≡ region_sort }
     ensures { RegionPart result ≡ part.now }
 {
@@ -140,7 +142,7 @@ pub fn the_region<X: Copy, D: Copy>(part: &Part<X, D>) -> RegionKey<X>
 }
 
 /// The type that a part is.
-pub fn the_ty<X: Copy, D: Copy>(part: &Part<X, D>) -> TyKey<X>
+pub fn expect_ty<X: Copy, D: Copy>(part: &Part<X, D>) -> TyKey<X>
     requires { part_sort part.now ≡ type_sort }
     ensures { TyPart result ≡ part.now }
 {
@@ -151,7 +153,7 @@ pub fn the_ty<X: Copy, D: Copy>(part: &Part<X, D>) -> TyKey<X>
 }
 
 /// The constant that a part is.
-pub fn the_const<X: Copy, D: Copy>(part: &Part<X, D>) -> ConstKey<X>
+pub fn expect_const<X: Copy, D: Copy>(part: &Part<X, D>) -> ConstKey<X>
     requires { part_sort part.now ≡ const_sort }
     ensures { ConstPart result ≡ part.now }
 {
@@ -162,7 +164,7 @@ pub fn the_const<X: Copy, D: Copy>(part: &Part<X, D>) -> ConstKey<X>
 }
 
 /// The value tree that a part is.
-pub fn the_valtree<X: Copy, D: Copy>(part: &Part<X, D>) -> ValTreeKey<X>
+pub fn expect_valtree<X: Copy, D: Copy>(part: &Part<X, D>) -> ValTreeKey<X>
     requires { part_sort part.now ≡ value_sort }
     ensures { ValTreePart result ≡ part.now }
 {
@@ -173,7 +175,7 @@ pub fn the_valtree<X: Copy, D: Copy>(part: &Part<X, D>) -> ValTreeKey<X>
 }
 
 /// The list of types whose inputs a part is.
-pub fn the_inputs<X: Copy, D: Copy>(part: &Part<X, D>) -> TysKey<X>
+pub fn expect_inputs<X: Copy, D: Copy>(part: &Part<X, D>) -> TysKey<X>
     requires { part_sort part.now ≡ inputs_sort }
     ensures { InputsPart result ≡ part.now }
 {
@@ -184,7 +186,7 @@ pub fn the_inputs<X: Copy, D: Copy>(part: &Part<X, D>) -> TysKey<X>
 }
 
 /// The signature that a part is.
-pub fn the_signature<X: Copy, D: Copy>(part: &Part<X, D>) -> FnSig<X>
+pub fn expect_signature<X: Copy, D: Copy>(part: &Part<X, D>) -> FnSig<X>
     requires { part_sort part.now ≡ signature_sort }
     ensures { SignaturePart result ≡ part.now }
 {
@@ -195,7 +197,7 @@ pub fn the_signature<X: Copy, D: Copy>(part: &Part<X, D>) -> FnSig<X>
 }
 
 /// The predicate of a trait object that a part is.
-pub fn the_existential<X: Copy, D: Copy>(part: &Part<X, D>) -> ExistentialPredicate<X, D>
+pub fn expect_existential<X: Copy, D: Copy>(part: &Part<X, D>) -> ExistentialPredicate<X, D>
     requires { part_sort part.now ≡ existential_sort }
     ensures { ExistentialPart result ≡ part.now }
 {
@@ -206,7 +208,7 @@ pub fn the_existential<X: Copy, D: Copy>(part: &Part<X, D>) -> ExistentialPredic
 }
 
 /// The pattern that a part is.
-pub fn the_pat<X: Copy, D: Copy>(part: &Part<X, D>) -> PatKey<X>
+pub fn expect_pat<X: Copy, D: Copy>(part: &Part<X, D>) -> PatKey<X>
     requires { part_sort part.now ≡ pattern_sort }
     ensures { PatPart result ≡ part.now }
 {
@@ -217,7 +219,7 @@ pub fn the_pat<X: Copy, D: Copy>(part: &Part<X, D>) -> PatKey<X>
 }
 
 /// The list of arguments that a list of parts is.
-pub fn the_args<X: Copy, D: Copy>(parts: &Parts<X, D>) -> ArgsKey<X>
+pub fn expect_args<X: Copy, D: Copy>(parts: &Parts<X, D>) -> ArgsKey<X>
     requires { IsArgs parts.now }
     ensures { ArgsParts result ≡ parts.now }
 {
@@ -228,7 +230,7 @@ pub fn the_args<X: Copy, D: Copy>(parts: &Parts<X, D>) -> ArgsKey<X>
 }
 
 /// The list of types that a list of parts is.
-pub fn the_tys<X: Copy, D: Copy>(parts: &Parts<X, D>) -> TysKey<X>
+pub fn expect_tys<X: Copy, D: Copy>(parts: &Parts<X, D>) -> TysKey<X>
     requires { IsTys parts.now }
     ensures { TysParts result ≡ parts.now }
 {
@@ -239,7 +241,7 @@ pub fn the_tys<X: Copy, D: Copy>(parts: &Parts<X, D>) -> TysKey<X>
 }
 
 /// The list of constants that a list of parts is.
-pub fn the_branches<X: Copy, D: Copy>(parts: &Parts<X, D>) -> BranchesKey<X>
+pub fn expect_branches<X: Copy, D: Copy>(parts: &Parts<X, D>) -> BranchesKey<X>
     requires { IsBranches parts.now }
     ensures { BranchesParts result ≡ parts.now }
 {
@@ -250,7 +252,7 @@ pub fn the_branches<X: Copy, D: Copy>(parts: &Parts<X, D>) -> BranchesKey<X>
 }
 
 /// The list of patterns that a list of parts is.
-pub fn the_alternatives<X: Copy, D: Copy>(parts: &Parts<X, D>) -> AlternativesKey<X>
+pub fn expect_alternatives<X: Copy, D: Copy>(parts: &Parts<X, D>) -> AlternativesKey<X>
     requires { IsAlternatives parts.now }
     ensures { AlternativesParts result ≡ parts.now }
 {
@@ -261,7 +263,7 @@ pub fn the_alternatives<X: Copy, D: Copy>(parts: &Parts<X, D>) -> AlternativesKe
 }
 
 /// The list of types whose inputs a list of parts is.
-pub fn the_input_types<X: Copy, D: Copy>(parts: &Parts<X, D>) -> TysKey<X>
+pub fn expect_input_types<X: Copy, D: Copy>(parts: &Parts<X, D>) -> TysKey<X>
     requires { IsInputs parts.now }
     ensures { InputsParts result ≡ parts.now }
 {
@@ -272,7 +274,7 @@ pub fn the_input_types<X: Copy, D: Copy>(parts: &Parts<X, D>) -> TysKey<X>
 }
 
 /// The list of a trait object's predicates that a list of parts is.
-pub fn the_predicates<X: Copy, D: Copy>(parts: &Parts<X, D>) -> ExistentialPredicatesKey<X>
+pub fn expect_predicates<X: Copy, D: Copy>(parts: &Parts<X, D>) -> ExistentialPredicatesKey<X>
     requires { IsPredicates parts.now }
     ensures { PredicatesParts result ≡ parts.now }
 {

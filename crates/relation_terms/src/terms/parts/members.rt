@@ -11,7 +11,8 @@ ghost use Rattle.relation_terms.specs.declared.terms.part_kind.Part.TheVariants.
 
 use crate::predicate::ExistentialPredicate;
 use crate::terms::parts::keys::{
-    of_arg, of_predicate, of_term, the_arg, the_const, the_pat, the_predicate, the_term, the_ty,
+    expect_arg, expect_const, expect_pat, expect_predicate, expect_term, expect_ty, of_arg,
+    of_predicate, of_term,
 };
 use crate::terms::{
     Binder, ConstKey, GenericArgKind, Interner, OutOfMemory, Part, PartOf, Parts, PartsOf, PatKey,
@@ -86,7 +87,7 @@ fn args_of<X: Copy, D: Copy>(
 {
     let mut list = Vec::new(alloc);
     for part in parts {
-        list.push(the_arg(part))?;
+        list.push(expect_arg(part))?;
     }
     Ok(list)
 }
@@ -101,7 +102,7 @@ fn tys_of<X: Copy, D: Copy>(
 {
     let mut list = Vec::new(alloc);
     for part in parts {
-        list.push(the_ty(part))?;
+        list.push(expect_ty(part))?;
     }
     Ok(list)
 }
@@ -118,7 +119,7 @@ fn consts_of<X: Copy, D: Copy>(
 {
     let mut list = Vec::new(alloc);
     for part in parts {
-        list.push(the_const(part))?;
+        list.push(expect_const(part))?;
     }
     Ok(list)
 }
@@ -134,7 +135,7 @@ fn pats_of<X: Copy, D: Copy>(
 {
     let mut list = Vec::new(alloc);
     for part in parts {
-        list.push(the_pat(part))?;
+        list.push(expect_pat(part))?;
     }
     Ok(list)
 }
@@ -150,7 +151,7 @@ fn predicates_of<X: Copy, D: Copy>(
 {
     let mut list = Vec::new(alloc);
     for part in parts {
-        list.push(the_predicate(part))?;
+        list.push(expect_predicate(part))?;
     }
     Ok(list)
 }
@@ -166,7 +167,7 @@ fn make_term_args<I: Interner>(cx: &mut I, members: &[PartOf<I>]) -> Result<Part
     ensures is { IfOk result (λ ps. IsTermArgs ps) }
     ensures refused { OnErr result (I.meaning cx.new ≡ I.meaning cx.old) }
 {
-    let term = the_term(&members[0]);
+    let term = expect_term(&members[0]);
     let list = args_of(&members[1..], cx.alloc())?;
     let made = cx.mk_args(&list)?;
     Ok(Parts::TermArgs(term, made))

@@ -16,9 +16,11 @@ use crate::terms::parts::forms::{
     const_over, const_parts, existential_over, existential_parts, pattern_over, pattern_parts,
     ty_over, ty_parts, valtree_over, valtree_parts,
 };
-use crate::terms::parts::keys::{body_or, of_body, the_inputs, the_ty};
+use crate::terms::parts::keys::{body_or, expect_inputs, expect_ty, of_body};
 use crate::terms::parts::members::{last_of, with_output};
-use crate::terms::parts::{make_parts, member, member_count, the_input_types, the_predicates};
+use crate::terms::parts::{
+    expect_input_types, expect_predicates, make_parts, member, member_count,
+};
 use crate::terms::{
     Const, ExistentialPredicates, FnSig, Interner, OutOfMemory, Part, PartOf, Parts, PartsOf, Pat,
     Ty, Tys, ValTree,
@@ -160,7 +162,7 @@ fn signature_with_parts<I: Interner>(
     ensures made { IfOk result (λ s. signature_tree (I.meaning cx.new) s ≡
         over (signature_tree (I.meaning cx.old) sig.now) (list_tree (part_tree (I.meaning cx.old)) parts.now)) }
 {
-    let types = with_output(cx, &the_inputs(&parts[0]), the_ty(&parts[1]))?;
+    let types = with_output(cx, &expect_inputs(&parts[0]), expect_ty(&parts[1]))?;
     Ok(FnSig {
         inputs_and_output: types,
         header: sig.header,
@@ -202,7 +204,7 @@ fn inputs_with_parts<I: Interner>(
         (list_tree (part_tree (I.meaning cx.old)) parts.now)) }
 {
     let made = make_parts(cx, &Parts::Inputs(*tys), parts)?;
-    Ok(the_input_types(&made))
+    Ok(expect_input_types(&made))
 }
 
 // The list of a trait object's predicates that these are.
@@ -221,7 +223,7 @@ fn object_with_parts<I: Interner>(
         (list_tree (part_tree (I.meaning cx.old)) parts.now)) }
 {
     let made = make_parts(cx, &Parts::Predicates(*predicates), parts)?;
-    Ok(the_predicates(&made))
+    Ok(expect_predicates(&made))
 }
 
 /// The term of that one's form over these parts, as many as it has and each of the sort of the part at its place.
@@ -247,7 +249,7 @@ pub fn with_parts<I: Interner>(
         Part::Const(constant) => Ok(Part::Const(const_with_parts(cx, constant, parts)?)),
         Part::ValTree(valtree) => Ok(Part::ValTree(valtree_with_parts(cx, valtree, parts)?)),
         Part::Pat(pat) => Ok(Part::Pat(pat_with_parts(cx, pat, parts)?)),
-        Part::ValueType(_) => Ok(Part::ValueType(the_ty(&parts[0]))),
+        Part::ValueType(_) => Ok(Part::ValueType(expect_ty(&parts[0]))),
         Part::Binder(vars, body) => Ok(Part::Binder(*vars, body_or(&parts[0], body))),
         Part::Signature(sig) => Ok(Part::Signature(signature_with_parts(cx, sig, parts)?)),
         Part::Inputs(types) => Ok(Part::Inputs(inputs_with_parts(cx, types, parts)?)),

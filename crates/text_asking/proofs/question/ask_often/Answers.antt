@@ -21,17 +21,17 @@ loop-init g c =
 pub ask_in-outcome-requires-in-loop-clause-ready : goal.ask_in-outcome-requires-in-loop-clause-ready
 ask_in-outcome-requires-in-loop-clause-ready g c =
     subst (λ i. AreKnown (g.I.Interner.meaning i) c.args.terms.now.built.now)
-    (sym c.renewed-ctx.ensures.interner) c.loop.invariant.ready
+    (sym c.reset-ctx.ensures.interner) c.loop.invariant.ready
 
 pub ask_in-outcome-requires-in-loop-clause-fit : goal.ask_in-outcome-requires-in-loop-clause-fit
 ask_in-outcome-requires-in-loop-clause-fit g c =
     subst (λ i. AreFit (g.I.Interner.meaning i) c.args.terms.now.built.now c.args.terms.now.fits.now)
-    (sym c.renewed-ctx.ensures.interner) c.loop.invariant.fit
+    (sym c.reset-ctx.ensures.interner) c.loop.invariant.fit
 
 pub loop-preserved : goal.loop-preserved
 loop-preserved g c =
     let h = c.ask_in-outcome-in-loop.ensures in
-    let same = c.renewed-ctx.ensures.interner in
+    let same = c.reset-ctx.ensures.interner in
     let m = g.I.Interner.meaning c.loop.ctx.interner in
     let n = g.I.Interner.meaning c.ask_in-outcome-in-loop.new.ctx.interner in
     let grown : Extends m n = subst (λ i. Extends (g.I.Interner.meaning i) n) same h.grown in

@@ -7,7 +7,7 @@ use Rattle.relation_folds.specs.declared.error.TypeError.TheVariants.{CyclicTy}
 use Rattle.relation_folds.specs.declared.error.RelateFault.TheVariants.{Memory}
 use Rattle.relation_semantics.specs.declared.relate.Step.TheVariants.{Done, Again}
 use Rattle.relation_semantics.specs.AliasGoals.{alias_at}
-use Rattle.relation_semantics.specs.Parts.{IsFormed}
+use Rattle.relation_semantics.specs.Parts.{IsRigid}
 use Rattle.relation_semantics.specs.Lawful.{Stepped, items_of}
 use Rattle.relation_semantics.proofs.Passing.{as_err}
 use Rattle.relation_semantics.proofs.Registered.{goals_stay}
@@ -40,19 +40,19 @@ returns-in_err-bound-clause-stepped g c =
     h.instantiates in
     let still = still_lawful (held_grows r.structurally_relate_aliases r.infcx.ghost_name r.cache.pairs.kept s d h.grows) r.goals.items s.store d.store
     r.ambient_variance r.param_env h.grows.extends c.requires.lawful.1 h.grows.lawful later in
-    subst (λ res. Stepped solver_manner IsFormed (solving_through r.structurally_relate_aliases r.infcx.ghost_name r.cache.pairs.kept r.goals.items s r.ambient_variance r.param_env)
+    subst (λ res. Stepped solver_manner IsRigid (solving_through r.structurally_relate_aliases r.infcx.ghost_name r.cache.pairs.kept r.goals.items s r.ambient_variance r.param_env)
     (solving_through r.structurally_relate_aliases r.infcx.ghost_name r.cache.pairs.kept r.goals.items d r.ambient_variance r.param_env)
     ((s.meaning).ty c.args.a.now) ((s.meaning).ty c.args.b.now) (d.meaning).ty res)
     (sym (as_err c.from_residual.result f c.from_residual.ensures.0 c.from_residual.ensures.1))
-    (subst (λ l. Stepped solver_manner IsFormed (solving_through r.structurally_relate_aliases r.infcx.ghost_name r.cache.pairs.kept r.goals.items s r.ambient_variance r.param_env)
+    (subst (λ l. Stepped solver_manner IsRigid (solving_through r.structurally_relate_aliases r.infcx.ghost_name r.cache.pairs.kept r.goals.items s r.ambient_variance r.param_env)
     (solving_through r.structurally_relate_aliases r.infcx.ghost_name r.cache.pairs.kept r.goals.items d r.ambient_variance r.param_env) l t
     (d.meaning).ty (Err f)) (sym is)
     (as_solving (held_grows r.structurally_relate_aliases r.infcx.ghost_name r.cache.pairs.kept s d h.grows) r.goals.items s.store d.store s.lawful d.lawful r.ambient_variance r.param_env h.grows.extends
-    c.requires.lawful.1 (λ q. Stepped solver_manner IsFormed
+    c.requires.lawful.1 (λ q. Stepped solver_manner IsRigid
     (solving_through r.structurally_relate_aliases r.infcx.ghost_name r.cache.pairs.kept r.goals.items s r.ambient_variance r.param_env) q (leaf (variable type_var n)) t (d.meaning).ty
     (Err f)) (left_refused (solving_through r.structurally_relate_aliases r.infcx.ghost_name r.cache.pairs.kept r.goals.items s r.ambient_variance r.param_env)
     was.lawful then.lawful
-    still IsFormed s d h.grows.extends c.requires.decides sound type_var tt n t c.requires.a_unresolved other (λ m. m.ty) CyclicTy r.ambient_variance
+    still IsRigid s d h.grows.extends c.requires.decides sound type_var tt n t c.requires.a_unresolved other (λ m. m.ty) CyclicTy r.ambient_variance
     (d.meaning).ty (λ o z i x. cycle_error d.meaning r.structurally_relate_aliases s.store d.store n t sound o z i other x) f h.instantiates)))
 
 pub returns-in_err-bound-clause-combines : goal.returns-in_err-bound-clause-combines
@@ -112,11 +112,11 @@ returns-in_err-register_alias_relate_predicate-clause-stepped g c =
     h.grows.extends env (λ y. RegistersGoal {A = Unit {0}} {F = OutOfMemory} y p asked.0 (Err c.in_err-register_alias_relate_predicate.field-0.0)) there in
     let from = c.from_residual-in_err-register_alias_relate_predicate in
     let is = as_err from.result Memory from.ensures.0 from.ensures.1 in
-    subst₂ (λ l res. Stepped solver_manner IsFormed was p l t (e.meaning).ty res) (sym c.requires.a_is) (sym is)
+    subst₂ (λ l res. Stepped solver_manner IsRigid was p l t (e.meaning).ty res) (sym c.requires.a_is) (sym is)
     (left_unasked_step was L K still s d h.grows.extends sound (g.met.Infcx.InferCtxtLike.numbers r.infcx.now c.requires.lawful.0.0)
     (g.met.Infcx.InferCtxtLike.bound_by_lists c.instantiate_ty_var_raw.new.self h.grows.lawful) n m t u k.right_taken.1 k.right_in
     k.right_known (ty_sorted of c.args.b.now ((g.met.Infcx.Interner.Interner.sorted cx).ty c.args.b.now) k.right_known)
-    r.ambient_variance (λ e. e) i.0 i.1 u_is came.0 came.1 p asked.0 made IsFormed (e.meaning).ty)
+    r.ambient_variance (λ e. e) i.0 i.1 u_is came.0 came.1 p asked.0 made IsRigid (e.meaning).ty)
 
 pub returns-in_err-register_alias_relate_predicate-clause-combines :
     goal.returns-in_err-register_alias_relate_predicate-clause-combines
@@ -195,11 +195,11 @@ returns-in-Some-clause-stepped g c =
     (subst (λ y. IfSome (alias_at r.ambient_variance u y) (λ w. RegistersGoal {A = Unit {0}} {F = OutOfMemory} (solving_through r.structurally_relate_aliases r.infcx.ghost_name r.cache.pairs.kept r.goals.items d r.ambient_variance r.param_env) p w (Ok tt))) t_stays reg) in
     let made = from_solving held r.goals.items s.store d.store s.lawful d.lawful r.ambient_variance r.param_env
     h.grows.extends env (λ y. RegistersGoal {A = Unit {0}} {F = OutOfMemory} y p asked.0 (Ok tt)) there in
-    subst (λ l. Stepped solver_manner IsFormed was p l t (e.meaning).ty (Ok (Done c.args.a.now)))
+    subst (λ l. Stepped solver_manner IsRigid was p l t (e.meaning).ty (Ok (Done c.args.a.now)))
     (sym c.requires.a_is) (left_asks was L K still s d h.grows.extends sound (g.met.Infcx.InferCtxtLike.numbers r.infcx.now c.requires.lawful.0.0)
     (g.met.Infcx.InferCtxtLike.bound_by_lists c.instantiate_ty_var_raw.new.self h.grows.lawful) n m t u k.right_taken.1 k.right_in
     k.right_known (ty_sorted of c.args.b.now ((g.met.Infcx.Interner.Interner.sorted cx).ty c.args.b.now) k.right_known)
-    r.ambient_variance (λ e. e) i.0 i.1 u_is came.0 came.1 p asked.0 made IsFormed (e.meaning).ty c.args.a.now asked.1
+    r.ambient_variance (λ e. e) i.0 i.1 u_is came.0 came.1 p asked.0 made IsRigid (e.meaning).ty c.args.a.now asked.1
     (made.extends.ty c.args.a.now (subst (λ y. IsTrue (known y)) (sym (h.grows.extends.ty c.args.a.now k.left_known)) k.left_known) ∙ h.grows.extends.ty c.args.a.now k.left_known ∙ c.requires.a_is))
 
 pub returns-in-Some-clause-combines : goal.returns-in-Some-clause-combines
@@ -264,13 +264,13 @@ returns-clause-stepped g c =
     (g.met.Infcx.InferCtxtLike.numbers r.infcx.now c.requires.lawful.0.0) ((d.meaning).ty z) k.right_in sorted h.instantiates.1 in
     let still = still_lawful (held_grows r.structurally_relate_aliases r.infcx.ghost_name r.cache.pairs.kept s d h.grows) r.goals.items s.store d.store
     r.ambient_variance r.param_env grown c.requires.lawful.1 h.grows.lawful later in
-    subst (λ x. Stepped solver_manner IsFormed was (solving_through r.structurally_relate_aliases r.infcx.ghost_name r.cache.pairs.kept r.goals.items d r.ambient_variance r.param_env)
+    subst (λ x. Stepped solver_manner IsRigid was (solving_through r.structurally_relate_aliases r.infcx.ghost_name r.cache.pairs.kept r.goals.items d r.ambient_variance r.param_env)
     ((s.meaning).ty c.args.a.now) t (d.meaning).ty (Ok x)) (sym c.behind_left_binding.ensures)
-    (subst (λ l. Stepped solver_manner IsFormed (solving_through r.structurally_relate_aliases r.infcx.ghost_name r.cache.pairs.kept r.goals.items s r.ambient_variance r.param_env)
+    (subst (λ l. Stepped solver_manner IsRigid (solving_through r.structurally_relate_aliases r.infcx.ghost_name r.cache.pairs.kept r.goals.items s r.ambient_variance r.param_env)
     (solving_through r.structurally_relate_aliases r.infcx.ghost_name r.cache.pairs.kept r.goals.items d r.ambient_variance r.param_env) l t
     (d.meaning).ty (Ok (Again c.args.a.now c.args.b.now z c.args.b.now Covariant c.args.a.now))) (sym is)
     (as_solving (held_grows r.structurally_relate_aliases r.infcx.ghost_name r.cache.pairs.kept s d h.grows) r.goals.items s.store d.store s.lawful d.lawful r.ambient_variance r.param_env grown
-    c.requires.lawful.1 (λ q. Stepped solver_manner IsFormed
+    c.requires.lawful.1 (λ q. Stepped solver_manner IsRigid
     (solving_through r.structurally_relate_aliases r.infcx.ghost_name r.cache.pairs.kept r.goals.items s r.ambient_variance r.param_env) q (leaf (variable type_var n)) t (d.meaning).ty
     (Ok (Again c.args.a.now c.args.b.now z c.args.b.now Covariant c.args.a.now))) (left_step (solving_through r.structurally_relate_aliases r.infcx.ghost_name r.cache.pairs.kept r.goals.items s r.ambient_variance r.param_env)
     was.lawful then.lawful
@@ -278,7 +278,7 @@ returns-clause-stepped g c =
     (g.met.Infcx.InferCtxtLike.numbers r.infcx.now c.requires.lawful.0.0)
     (g.met.Infcx.InferCtxtLike.bound_by_lists q h.grows.lawful) n t ((d.meaning).ty z) k.right_taken.1 k.right_in
     k.right_known (ty_sorted of c.args.b.now ((g.met.Infcx.Interner.Interner.sorted cx).ty c.args.b.now) k.right_known)
-    r.ambient_variance (λ e. e) h.instantiates.0 h.instantiates.1 IsFormed c.args.a.now c.args.b.now z
+    r.ambient_variance (λ e. e) h.instantiates.0 h.instantiates.1 IsRigid c.args.a.now c.args.b.now z
     c.args.b.now c.args.a.now (d.meaning).ty (λ e. c.requires.b_is) root_stays t_stays refl t_stays (inl root_stays))))
 
 pub returns-clause-combines : goal.returns-clause-combines

@@ -7,7 +7,7 @@ use Rattle.relation_folds.specs.declared.error.TypeError.TheVariants.{CyclicTy}
 use Rattle.relation_folds.specs.declared.error.RelateFault.TheVariants.{Memory}
 use Rattle.relation_semantics.specs.declared.relate.Step.TheVariants.{Done, Again}
 use Rattle.relation_semantics.specs.AliasGoals.{alias_at}
-use Rattle.relation_semantics.specs.Parts.{IsFormed}
+use Rattle.relation_semantics.specs.Parts.{IsRigid}
 use Rattle.relation_semantics.specs.Lawful.{Stepped, items_of}
 use Rattle.relation_semantics.proofs.Passing.{as_err}
 use Rattle.relation_semantics.proofs.Registered.{goals_stay}
@@ -41,19 +41,19 @@ returns-in_err-bound-clause-stepped g c =
     h.instantiates in
     let still = still_lawful (held_grows r.structurally_relate_aliases r.infcx.ghost_name r.cache.pairs.kept s d h.grows) r.goals.items s.store d.store
     r.ambient_variance r.param_env h.grows.extends c.requires.lawful.1 h.grows.lawful later in
-    subst (λ res. Stepped solver_manner IsFormed (solving_through r.structurally_relate_aliases r.infcx.ghost_name r.cache.pairs.kept r.goals.items s r.ambient_variance r.param_env)
+    subst (λ res. Stepped solver_manner IsRigid (solving_through r.structurally_relate_aliases r.infcx.ghost_name r.cache.pairs.kept r.goals.items s r.ambient_variance r.param_env)
     (solving_through r.structurally_relate_aliases r.infcx.ghost_name r.cache.pairs.kept r.goals.items d r.ambient_variance r.param_env)
     ((s.meaning).ty c.args.a.now) ((s.meaning).ty c.args.b.now) (d.meaning).ty res)
     (sym (as_err c.from_residual.result f c.from_residual.ensures.0 c.from_residual.ensures.1))
-    (subst (λ l. Stepped solver_manner IsFormed (solving_through r.structurally_relate_aliases r.infcx.ghost_name r.cache.pairs.kept r.goals.items s r.ambient_variance r.param_env)
+    (subst (λ l. Stepped solver_manner IsRigid (solving_through r.structurally_relate_aliases r.infcx.ghost_name r.cache.pairs.kept r.goals.items s r.ambient_variance r.param_env)
     (solving_through r.structurally_relate_aliases r.infcx.ghost_name r.cache.pairs.kept r.goals.items d r.ambient_variance r.param_env) t l
     (d.meaning).ty (Err f)) (sym is)
     (as_solving (held_grows r.structurally_relate_aliases r.infcx.ghost_name r.cache.pairs.kept s d h.grows) r.goals.items s.store d.store s.lawful d.lawful r.ambient_variance r.param_env h.grows.extends
-    c.requires.lawful.1 (λ q. Stepped solver_manner IsFormed
+    c.requires.lawful.1 (λ q. Stepped solver_manner IsRigid
     (solving_through r.structurally_relate_aliases r.infcx.ghost_name r.cache.pairs.kept r.goals.items s r.ambient_variance r.param_env) q t (leaf (variable type_var n)) (d.meaning).ty
     (Err f)) (right_refused (solving_through r.structurally_relate_aliases r.infcx.ghost_name r.cache.pairs.kept r.goals.items s r.ambient_variance r.param_env)
     was.lawful then.lawful
-    still IsFormed s d h.grows.extends c.requires.decides sound type_var tt n t c.requires.b_unresolved other (λ m. m.ty) CyclicTy c.xform-variance.result
+    still IsRigid s d h.grows.extends c.requires.decides sound type_var tt n t c.requires.b_unresolved other (λ m. m.ty) CyclicTy c.xform-variance.result
     (d.meaning).ty (λ o z i x. cycle_error d.meaning r.structurally_relate_aliases s.store d.store n t sound o z i other x) f h.instantiates)))
 
 pub returns-in_err-bound-clause-combines : goal.returns-in_err-bound-clause-combines
@@ -115,11 +115,11 @@ returns-in_err-register_alias_relate_predicate-clause-stepped g c =
     h.grows.extends env (λ y. RegistersGoal {A = Unit {0}} {F = OutOfMemory} y p asked.0 (Err c.in_err-register_alias_relate_predicate.field-0.0)) there in
     let from = c.from_residual-in_err-register_alias_relate_predicate in
     let is = as_err from.result Memory from.ensures.0 from.ensures.1 in
-    subst₂ (λ l res. Stepped solver_manner IsFormed was p t l (e.meaning).ty res) (sym c.requires.b_is) (sym is)
+    subst₂ (λ l res. Stepped solver_manner IsRigid was p t l (e.meaning).ty res) (sym c.requires.b_is) (sym is)
     (right_unasked_step was L K still s d h.grows.extends sound (g.met.Infcx.InferCtxtLike.numbers r.infcx.now c.requires.lawful.0.0)
     (g.met.Infcx.InferCtxtLike.bound_by_lists c.instantiate_ty_var_raw.new.self h.grows.lawful) n m t u k.left_taken.1 k.left_in
     k.left_known (ty_sorted of c.args.a.now ((g.met.Infcx.Interner.Interner.sorted cx).ty c.args.a.now) k.left_known)
-    c.xform-variance.result (λ e. c.xform-variance.ensures ∙ xform_invariant _ Contravariant e) i.0 i.1 u_is came.0 came.1 p asked.0 made IsFormed (e.meaning).ty)
+    c.xform-variance.result (λ e. c.xform-variance.ensures ∙ xform_invariant _ Contravariant e) i.0 i.1 u_is came.0 came.1 p asked.0 made IsRigid (e.meaning).ty)
 
 pub returns-in_err-register_alias_relate_predicate-clause-combines :
     goal.returns-in_err-register_alias_relate_predicate-clause-combines
@@ -199,11 +199,11 @@ returns-in-Some-clause-stepped g c =
     (subst (λ y. IfSome (alias_at r.ambient_variance y u) (λ w. RegistersGoal {A = Unit {0}} {F = OutOfMemory} (solving_through r.structurally_relate_aliases r.infcx.ghost_name r.cache.pairs.kept r.goals.items d r.ambient_variance r.param_env) p w (Ok tt))) t_stays reg) in
     let made = from_solving held r.goals.items s.store d.store s.lawful d.lawful r.ambient_variance r.param_env
     h.grows.extends env (λ y. RegistersGoal {A = Unit {0}} {F = OutOfMemory} y p asked.0 (Ok tt)) there in
-    subst (λ l. Stepped solver_manner IsFormed was p t l (e.meaning).ty (Ok (Done c.args.a.now)))
+    subst (λ l. Stepped solver_manner IsRigid was p t l (e.meaning).ty (Ok (Done c.args.a.now)))
     (sym c.requires.b_is) (right_asks was L K still s d h.grows.extends sound (g.met.Infcx.InferCtxtLike.numbers r.infcx.now c.requires.lawful.0.0)
     (g.met.Infcx.InferCtxtLike.bound_by_lists c.instantiate_ty_var_raw.new.self h.grows.lawful) n m t u k.left_taken.1 k.left_in
     k.left_known (ty_sorted of c.args.a.now ((g.met.Infcx.Interner.Interner.sorted cx).ty c.args.a.now) k.left_known)
-    c.xform-variance.result (λ e. c.xform-variance.ensures ∙ xform_invariant _ Contravariant e) i.0 i.1 u_is came.0 came.1 p asked.0 made IsFormed (e.meaning).ty c.args.a.now asked.1
+    c.xform-variance.result (λ e. c.xform-variance.ensures ∙ xform_invariant _ Contravariant e) i.0 i.1 u_is came.0 came.1 p asked.0 made IsRigid (e.meaning).ty c.args.a.now asked.1
     (made.extends.ty c.args.a.now (subst (λ y. IsTrue (known y)) (sym (h.grows.extends.ty c.args.a.now k.left_known)) k.left_known) ∙ h.grows.extends.ty c.args.a.now k.left_known))
 
 pub returns-in-Some-clause-combines : goal.returns-in-Some-clause-combines
@@ -269,13 +269,13 @@ returns-clause-stepped g c =
     (g.met.Infcx.InferCtxtLike.numbers r.infcx.now c.requires.lawful.0.0) ((d.meaning).ty z) k.left_in sorted h.instantiates.1 in
     let still = still_lawful (held_grows r.structurally_relate_aliases r.infcx.ghost_name r.cache.pairs.kept s d h.grows) r.goals.items s.store d.store
     r.ambient_variance r.param_env grown c.requires.lawful.1 h.grows.lawful later in
-    subst (λ x. Stepped solver_manner IsFormed was (solving_through r.structurally_relate_aliases r.infcx.ghost_name r.cache.pairs.kept r.goals.items d r.ambient_variance r.param_env)
+    subst (λ x. Stepped solver_manner IsRigid was (solving_through r.structurally_relate_aliases r.infcx.ghost_name r.cache.pairs.kept r.goals.items d r.ambient_variance r.param_env)
     t ((s.meaning).ty c.args.b.now) (d.meaning).ty (Ok x)) (sym c.behind_right_binding.ensures)
-    (subst (λ l. Stepped solver_manner IsFormed (solving_through r.structurally_relate_aliases r.infcx.ghost_name r.cache.pairs.kept r.goals.items s r.ambient_variance r.param_env)
+    (subst (λ l. Stepped solver_manner IsRigid (solving_through r.structurally_relate_aliases r.infcx.ghost_name r.cache.pairs.kept r.goals.items s r.ambient_variance r.param_env)
     (solving_through r.structurally_relate_aliases r.infcx.ghost_name r.cache.pairs.kept r.goals.items d r.ambient_variance r.param_env) t l
     (d.meaning).ty (Ok (Again c.args.a.now c.args.b.now c.args.a.now z Covariant c.args.a.now))) (sym is)
     (as_solving (held_grows r.structurally_relate_aliases r.infcx.ghost_name r.cache.pairs.kept s d h.grows) r.goals.items s.store d.store s.lawful d.lawful r.ambient_variance r.param_env grown
-    c.requires.lawful.1 (λ q. Stepped solver_manner IsFormed
+    c.requires.lawful.1 (λ q. Stepped solver_manner IsRigid
     (solving_through r.structurally_relate_aliases r.infcx.ghost_name r.cache.pairs.kept r.goals.items s r.ambient_variance r.param_env) q t (leaf (variable type_var n)) (d.meaning).ty
     (Ok (Again c.args.a.now c.args.b.now c.args.a.now z Covariant c.args.a.now))) (right_step (solving_through r.structurally_relate_aliases r.infcx.ghost_name r.cache.pairs.kept r.goals.items s r.ambient_variance r.param_env)
     was.lawful then.lawful
@@ -283,7 +283,7 @@ returns-clause-stepped g c =
     (g.met.Infcx.InferCtxtLike.numbers r.infcx.now c.requires.lawful.0.0)
     (g.met.Infcx.InferCtxtLike.bound_by_lists q h.grows.lawful) n t ((d.meaning).ty z) k.left_taken.1 k.left_in
     k.left_known (ty_sorted of c.args.a.now ((g.met.Infcx.Interner.Interner.sorted cx).ty c.args.a.now) k.left_known)
-    c.xform-variance.result (λ e. c.xform-variance.ensures ∙ xform_invariant _ Contravariant e) h.instantiates.0 h.instantiates.1 IsFormed c.args.a.now c.args.b.now
+    c.xform-variance.result (λ e. c.xform-variance.ensures ∙ xform_invariant _ Contravariant e) h.instantiates.0 h.instantiates.1 IsRigid c.args.a.now c.args.b.now
     c.args.a.now z c.args.a.now (d.meaning).ty (λ e. c.requires.a_is) t_stays root_stays t_stays refl (inr t_stays))))
 
 pub returns-clause-combines : goal.returns-clause-combines

@@ -3,7 +3,7 @@ use Rattle.term_enums.specs.declared.memory.OutOfMemory.{OutOfMemory}
 use Rattle.relation_terms.specs.Heads.{type_var}
 use Rattle.relation_folds.specs.declared.error.RelateFault.TheVariants.{Memory}
 use Rattle.relation_semantics.specs.Goals.{goals_of}
-use Rattle.relation_semantics.specs.Parts.{IsFormed}
+use Rattle.relation_semantics.specs.Parts.{IsRigid}
 use Rattle.relation_semantics.specs.Lawful.{Stepped}
 use Rattle.relation_semantics.proofs.Passing.{as_err}
 use Rattle.relation_goals.specs.Emitting.{RegistersGoal}
@@ -33,9 +33,9 @@ returns-in_err-register_subtype_predicate-clause-stepped g c =
     let h : RegistersGoal {A = Unit {0}} {F = OutOfMemory} was now asks.0 (Err c.in_err-register_subtype_predicate.field-0.0) =
     subst (λ o. IfSome o (λ p. RegistersGoal {A = Unit {0}} {F = OutOfMemory} was now p (Err c.in_err-register_subtype_predicate.field-0.0))) asks.1
     c.in_err-register_subtype_predicate.ensures in
-    subst (Stepped solver_manner IsFormed was now ta tb (d.meaning).ty)
+    subst (Stepped solver_manner IsRigid was now ta tb (d.meaning).ty)
     (sym (as_err c.from_residual.result Memory c.from_residual.ensures.0 c.from_residual.ensures.1))
-    (goal_refused IsFormed ta tb (d.meaning).ty asks.0 h)
+    (goal_refused IsRigid ta tb (d.meaning).ty asks.0 h)
 
 pub returns-clause-stepped : goal.returns-clause-stepped
 returns-clause-stepped g c =
@@ -94,7 +94,7 @@ returns-in-Invariant-clause-stepped g c =
     let sound = g.met.Infcx.InferCtxtLike.sound r.infcx.now c.requires.lawful.0.0 in
     let d = g.Infcx.InferCtxtLike.state c.equate_ty_vids_raw.new.self in
     let done = c.equate_ty_vids_raw.ensures.equates in
-    roots_step (held_stands r.structurally_relate_aliases r.infcx.ghost_name r.cache.pairs.kept s d done.stands) r.goals.items IsFormed s.meaning d.meaning s.store d.store s.lawful d.lawful
+    roots_step (held_stands r.structurally_relate_aliases r.infcx.ghost_name r.cache.pairs.kept s d done.stands) r.goals.items IsRigid s.meaning d.meaning s.store d.store s.lawful d.lawful
     r.ambient_variance r.param_env type_var (no_region type_var tt) c.args.x.0 c.args.y.0 ((s.meaning).ty c.args.a.now)
     ((s.meaning).ty c.args.b.now) (d.meaning).ty c.args.a.now done.stands.meaning
     c.requires.lawful.1 sound done.stands.lawful done.same done.equates c.requires.a_is

@@ -1,7 +1,7 @@
 use Rattle.std.proofs.Common.{sym, ap, ◌∙◌, inl, inr, ⊎_elim, subst, Contains, Ok, Err}
 use Rattle.relation_folds.specs.declared.error.RelateFault.TheVariants.{Memory}
 use Rattle.relation_semantics.specs.declared.relate.Step.TheVariants.{Done}
-use Rattle.relation_semantics.specs.Parts.{IsFormed}
+use Rattle.relation_semantics.specs.Parts.{IsRigid}
 use Rattle.relation_semantics.specs.Lawful.{Stepped}
 use Rattle.relation_semantics.proofs.Passing.{as_err}
 use Rattle.relation_semantics.proofs.Remembering.{step_remembering, step_not_remembered}
@@ -60,10 +60,10 @@ returns-in_err-remember-in-Done-clause-stepped g c =
     let step = subst (λ z. SteppedTys solver_manner was then a b (Ok z)) c.in-Done.is e.stepped in
     let from = c.from_residual-in_err-remember-in-Done in
     let h = c.in_err-remember-in-Done.ensures in
-    subst (Stepped solver_manner IsFormed was last ta tb (f.meaning).ty)
+    subst (Stepped solver_manner IsRigid was last ta tb (f.meaning).ty)
     (sym (as_err from.result Memory from.ensures.0 from.ensures.1))
-    (subst (λ m. Stepped solver_manner IsFormed was last ta tb m.ty (Err Memory)) (sym h.meaning)
-    (step_not_remembered h solver_manner IsFormed ta tb (d.meaning).ty c.in-Done.answer step))
+    (subst (λ m. Stepped solver_manner IsRigid was last ta tb m.ty (Err Memory)) (sym h.meaning)
+    (step_not_remembered h solver_manner IsRigid ta tb (d.meaning).ty c.in-Done.answer step))
 
 pub returns-in_err-remember-in-Done-clause-steps : goal.returns-in_err-remember-in-Done-clause-steps
 returns-in_err-remember-in-Done-clause-steps g c =
@@ -105,8 +105,8 @@ returns-in_ok-remember-in-Done-clause-stepped g c =
     let e = c.in_ok-step.ensures in
     let step = subst (λ z. SteppedTys solver_manner was then a b (Ok z)) c.in-Done.is e.stepped in
     let h = c.in_ok-remember-in-Done.ensures in
-    subst (λ m. Stepped solver_manner IsFormed was last ta tb m.ty (Ok (Done c.in-Done.answer))) (sym h.meaning)
-    (step_remembering h solver_manner IsFormed ta tb (d.meaning).ty c.in-Done.answer step
+    subst (λ m. Stepped solver_manner IsRigid was last ta tb m.ty (Ok (Done c.in-Done.answer))) (sym h.meaning)
+    (step_remembering h solver_manner IsRigid ta tb (d.meaning).ty c.in-Done.answer step
     (answered_means was then a b c.in-Done.answer c.requires.asked step))
 
 pub returns-in_ok-remember-in-Done-clause-steps : goal.returns-in_ok-remember-in-Done-clause-steps

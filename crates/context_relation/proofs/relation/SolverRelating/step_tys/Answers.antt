@@ -1,7 +1,7 @@
 use Rattle.std.proofs.Common.{◌≡◌, refl, sym, ◌∙◌, inr, subst, Ok, IsTrue}
 use Rattle.std.proofs.lemmas.Bool.{false≢true}
 use Rattle.relation_terms.specs.Trees.{known}
-use Rattle.relation_semantics.specs.Parts.{IsFormed}
+use Rattle.relation_semantics.specs.Parts.{IsRigid}
 use Rattle.relation_semantics.specs.Resolving.{formed}
 use Rattle.relation_combining.specs.Solving.{solving_through, solver_manner}
 use Rattle.relation_recursion.proofs.StructuralConsts.{itself_related}
@@ -28,7 +28,7 @@ returns-then-eq-clause-stepped g c =
     let same = one_ty of c.args.a.now c.args.b.now (λ h i.
     (g.met.Infcx.Interner.Interner.same_ty cx c.args.a.now c.args.b.now h i).0 (sym c.if-eq.ensures)) k.left_known
     k.right_known in
-    answered_step (held_kept r.structurally_relate_aliases r.infcx.ghost_name r.cache.pairs.kept s s refl refl) r.goals.items IsFormed s.meaning s.meaning s.store s.store s.lawful s.lawful r.ambient_variance
+    answered_step (held_kept r.structurally_relate_aliases r.infcx.ghost_name r.cache.pairs.kept s s refl refl) r.goals.items IsRigid s.meaning s.meaning s.store s.store s.lawful s.lawful r.ambient_variance
     r.param_env ((s.meaning).ty c.args.a.now) ((s.meaning).ty c.args.b.now) (s.meaning).ty c.args.a.now
     (itself_related solver_manner (solving_through r.structurally_relate_aliases r.infcx.ghost_name r.cache.pairs.kept r.goals.items s r.ambient_variance r.param_env)
     r.ambient_variance (s.meaning).ty ((s.meaning).ty c.args.a.now) ((s.meaning).ty c.args.b.now) c.args.a.now same
@@ -69,7 +69,7 @@ returns-clause-stepped g c =
     c.shallow_resolve-right.ensures.reads.reads
     (shallow_ty_free s.store ((s.meaning).ty c.shallow_resolve-left.result) c.shallow_resolve-left.ensures.shallow)
     (shallow_ty_free s.store ((s.meaning).ty c.shallow_resolve-right.result) c.shallow_resolve-right.ensures.shallow)
-    IsFormed (d.meaning).ty c.step_read-2.result c.step_read-2.ensures.stepped
+    IsRigid (d.meaning).ty c.step_read-2.result c.step_read-2.ensures.stepped
 
 pub returns-then-have_no_variable-clause-stepped : goal.returns-then-have_no_variable-clause-stepped
 returns-then-have_no_variable-clause-stepped g c = c.step_read.ensures.stepped
@@ -109,7 +109,7 @@ returns-then-have_no_variable-clause-steps g c =
     a b _ _ (unless_variables
     (solving_through r.structurally_relate_aliases r.infcx.ghost_name r.cache.pairs.kept r.goals.items s r.ambient_variance r.param_env)
     (solving_through q.structurally_relate_aliases q.infcx.ghost_name q.cache.pairs.kept q.goals.items d q.ambient_variance q.param_env)
-    a b (λ n e. subst IsFormed e a_formed) (λ n e. subst IsFormed e b_formed)) c.step_read.result c.step_read.ensures.steps))
+    a b (λ n e. subst IsRigid e a_formed) (λ n e. subst IsRigid e b_formed)) c.step_read.result c.step_read.ensures.steps))
 
 pub returns-then-have_no_variable-clause-alone : goal.returns-then-have_no_variable-clause-alone
 returns-then-have_no_variable-clause-alone g c =
@@ -137,7 +137,7 @@ returns-then-have_no_variable-clause-alone g c =
     a b _ _ (unless_variables
     (solving_through r.structurally_relate_aliases r.infcx.ghost_name r.cache.pairs.kept r.goals.items s r.ambient_variance r.param_env)
     (solving_through q.structurally_relate_aliases q.infcx.ghost_name q.cache.pairs.kept q.goals.items d q.ambient_variance q.param_env)
-    a b (λ n e. subst IsFormed e a_formed) (λ n e. subst IsFormed e b_formed)) c.step_read.result c.step_read.ensures.steps))
+    a b (λ n e. subst IsRigid e a_formed) (λ n e. subst IsRigid e b_formed)) c.step_read.result c.step_read.ensures.steps))
 
 pub returns-then-eq-clause-alone : goal.returns-then-eq-clause-alone
 returns-then-eq-clause-alone g c =
@@ -230,7 +230,7 @@ returns-then-have_no_variable-clause-remembers g c = λ none.
     let e = c.have_no_variable.ensures in
     let a_formed = e.a_formed c.if-have_no_variable.true (term_within s.store _ k.left_in) in
     let b_formed = e.b_formed c.if-have_no_variable.true (term_within s.store _ k.right_in) in
-    c.step_read.ensures.remembers (λ n e. subst IsFormed e a_formed) (λ n e. subst IsFormed e b_formed)
+    c.step_read.ensures.remembers (λ n e. subst IsRigid e a_formed) (λ n e. subst IsRigid e b_formed)
 
 pub returns-clause-remembers : goal.returns-clause-remembers
 returns-clause-remembers g c = λ none.

@@ -11,4 +11,4 @@ returns-clause-puts g c =
     let n = g.I.Interner.meaning c.resolve_variable.new.cx in
     let v = c.requires.variable in
     value_of (resolved (store_of m c.args.inner.now)) v.0 v.1 (m.ty c.args.ty.now) v.2
-    ∙ ap Some (sym (ap (part_tree n) c.the_ty.ensures ∙ c.in_ok-resolved.ensures.resolves))
+    ∙ ap Some (sym (ap (part_tree n) c.expect_ty.ensures ∙ c.in_ok-resolved.ensures.resolves))

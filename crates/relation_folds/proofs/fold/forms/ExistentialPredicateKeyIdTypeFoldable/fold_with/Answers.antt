@@ -19,10 +19,10 @@ returns-clause-same g c = λ q.
     let laws = g.met.I.Interner in
     let sorted : Sorted n = laws.sorted a in
     let x = c.args.self.now in
-    let y = c.the_existential.result in
+    let y = c.expect_existential.result in
     let r = c.in_ok-fold_part.ensures in
     let p = c.in_ok-fold_part.field-0 in
-    let part : existential_tree n y ≡ part_tree n p = ap (part_tree n) c.the_existential.ensures in
+    let part : existential_tree n y ≡ part_tree n p = ap (part_tree n) c.expect_existential.ensures in
     let stay : existential_tree n x ≡ existential_tree m x = stays_existential r.steps.grown x c.requires.known in
     existential_found n g.I.Key.PartialEq.eq g.I.Id.PartialEq.eq terms predicates (λ t u. refl) (λ t u. refl) (λ t u. refl) (λ t u. refl)
     (λ t u. refl) (laws.same_id a) (laws.same_ty a) (laws.same_const a) (laws.same_args a) sorted y x

@@ -10,10 +10,10 @@ returns-clause-same g c = λ q.
     let m = g.I.Interner.meaning c.args.cx.now in
     let n = g.I.Interner.meaning c.fold_part.new.cx in
     let x = c.args.self.now in
-    let y = c.the_signature.result in
+    let y = c.expect_signature.result in
     let r = c.in_ok-fold_part.ensures in
     let p = c.in_ok-fold_part.field-0 in
-    let part : signature_tree n y ≡ part_tree n p = ap (part_tree n) c.the_signature.ensures in
+    let part : signature_tree n y ≡ part_tree n p = ap (part_tree n) c.expect_signature.ensures in
     let stay : signature_tree n x ≡ signature_tree m x = stays_signature r.steps.grown x c.requires.known in
     signature_found n g.I.Key.PartialEq.eq (g.met.I.Interner.same_tys c.fold_part.new.cx) y x
     (knows_as (part_tree n p) (signature_tree n y) part r.sure)

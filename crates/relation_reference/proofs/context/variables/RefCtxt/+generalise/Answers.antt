@@ -581,8 +581,8 @@ generalise_part-returns-in_err-became g t' c =
           c.from_residual.result f refl (as_err c.from_residual.result f c.from_residual.ensures.0 c.from_residual.ensures.1) h.answers;
     }
 
-pub generalise_part-the_ty-requires : goal.generalise_part-the_ty-requires
-generalise_part-the_ty-requires g t' c =
+pub generalise_part-expect_ty-requires : goal.generalise_part-expect_ty-requires
+generalise_part-expect_ty-requires g t' c =
     c.in_ok-became.ensures.answers.1 ∙ ap part_sort c.in-Ty.is
 
 pub generalise_part-keep_type-requires-clause-ty_known : goal.generalise_part-keep_type-requires-clause-ty_known
@@ -623,7 +623,7 @@ generalise_part-keep_type-requires-clause-became_known g t' c =
     let n = meaning c.generalise_new-2.new.self.interner in
     let h = c.in_ok-became.ensures in
     let there = subst (λ q. IsTrue (known (part_tree m q))) c.in-Ty.is c.requires.term_known in
-    subst (λ q. IsTrue (known (part_tree n q))) (sym c.the_ty.ensures) h.answers.0
+    subst (λ q. IsTrue (known (part_tree n q))) (sym c.expect_ty.ensures) h.answers.0
 
 pub generalise_part-keep_type-requires-clause-sure : goal.generalise_part-keep_type-requires-clause-sure
 generalise_part-keep_type-requires-clause-sure g t' c =
@@ -702,7 +702,7 @@ generalise_part-returns g t' c =
       rest = h.rest;
       clear = h.clear;
       answers = met_answers meaning eq c.args.self.now c.generalise_new-2.new.self al k i u c.args.target.now.cyclic c.args.met.now c.generalise_new-2.new.met p c.args.inside v c.keep_type.new.met c.in_ok-became.became
-          c.in-Ty.ty c.the_ty.result c.in-Ty.is (sym c.the_ty.ensures) sort (h.grown.ty c.in-Ty.ty there) c.in_ok-keep_type.ensures.sure
+          c.in-Ty.ty c.expect_ty.result c.in-Ty.is (sym c.expect_ty.ensures) sort (h.grown.ty c.in-Ty.ty there) c.in_ok-keep_type.ensures.sure
           c.in_ok-keep_type.ensures.keeps c.in_default-recall_type.ensures.not_met h.answers;
     }
 

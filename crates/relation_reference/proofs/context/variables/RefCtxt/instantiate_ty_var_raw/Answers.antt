@@ -164,8 +164,8 @@ returns g c =
     let e = c.in_ok-part.ensures in
     let s = left_still o r.grown x w z r.inner l c.args.aliases type_var i u universe e.makes in
     let left : z.budget ≡ suc (z.budget - 1) = (let d = c.if-self-eq0.false in omega (arith, s, d)) in
-    let b = c.the_ty-bound.result in
-    let is : part_tree o c.in_ok-part.part ≡ o.ty b = sym (ap (part_tree o) c.the_ty-bound.ensures) in
+    let b = c.expect_ty-bound.result in
+    let is : part_tree o c.in_ok-part.part ≡ o.ty b = sym (ap (part_tree o) c.expect_ty-bound.ensures) in
     let sure = subst (λ a. IsTrue (known a)) is e.generalised.0 in
     let ts = c.bind.new.self in
     let y : InferCtxtInner g.row.I-Key.Denot = record z { types = ts; budget = z.budget - 1 } in

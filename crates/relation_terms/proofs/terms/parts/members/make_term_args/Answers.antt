@@ -34,7 +34,7 @@ returns g c =
     let n = g.I.Interner.meaning c.mk_args.new.self in
     let xs = c.args.members.now in
     let x = c.index-members-0.result in
-    let t = c.the_term-term.result in
+    let t = c.expect_term-term.result in
     let whole = first_and_rest (part_tree m) xs x x c.requires.fits c.index-members-0.is in
     let k : IsTrue (known (cons (part_tree m x) (list_tree (part_tree m) (rest_of xs)))) =
     knows_as (list_tree (part_tree m) xs) (cons (part_tree m x) (list_tree (part_tree m) (rest_of xs))) whole
@@ -43,7 +43,7 @@ returns g c =
     ap (list_tree (arg_tree m)) c.deref.ensures.value
     ∙ mapped (arg_tree m) (part_tree m) (λ a. part_of_arg a) (λ a. arg_part m a) c.in_ok-list.list.items (rest_of xs)
     c.in_ok-list.ensures in
-    let one : term_tree m t ≡ part_tree m x = sym (term_of_part m t) ∙ ap (part_tree m) c.the_term-term.ensures in
+    let one : term_tree m t ≡ part_tree m x = sym (term_of_part m t) ∙ ap (part_tree m) c.expect_term-term.ensures in
     let sure = knows_as (part_tree m x) (term_tree m t) one
     (and_parts (known (part_tree m x)) (known (list_tree (part_tree m) (rest_of xs))) k).0 in
     let r = c.in_ok-made.ensures in

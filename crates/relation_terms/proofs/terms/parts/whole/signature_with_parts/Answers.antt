@@ -11,8 +11,8 @@ use Rattle.relation_terms.proofs.Members.{type_term}
 use Rattle.relation_terms.proofs.Parts.{fit_two, fit_two_some, over_known}
 use Rattle.relation_terms.proofs.terms.parts.whole.signature_with_parts.Goals as goal
 
-pub the_inputs-requires : goal.the_inputs-requires
-the_inputs-requires g c =
+pub expect_inputs-requires : goal.expect_inputs-requires
+expect_inputs-requires g c =
     let m = g.I.Interner.meaning c.args.cx.now in
     let ts = m.tys (c.args.sig.now).inputs_and_output in
     let xs = c.args.parts.now in
@@ -26,8 +26,8 @@ bounds-parts-1 g c =
     let ts = m.tys (c.args.sig.now).inputs_and_output in
     fit_two_some m c.args.parts.now (node inputs (front ts)) (last ts) c.requires.fits
 
-pub the_ty-requires : goal.the_ty-requires
-the_ty-requires g c =
+pub expect_ty-requires : goal.expect_ty-requires
+expect_ty-requires g c =
     let m = g.I.Interner.meaning c.args.cx.now in
     let ts = m.tys (c.args.sig.now).inputs_and_output in
     let xs = c.args.parts.now in
@@ -51,8 +51,8 @@ with_output-requires g c =
     knows_as (list_tree (part_tree m) xs) (cons (part_tree m x) (cons (part_tree m y) nil)) whole c.requires.parts_known in
     let p = and_parts (known (part_tree m x)) (known (part_tree m y) && true) k in
     record {
-      tys_known = subst (λ z. IsTrue (known (part_tree m z))) (sym c.the_inputs.ensures) p.0;
-      output_known = subst (λ z. IsTrue (known (part_tree m z))) (sym c.the_ty.ensures)
+      tys_known = subst (λ z. IsTrue (known (part_tree m z))) (sym c.expect_inputs.ensures) p.0;
+      output_known = subst (λ z. IsTrue (known (part_tree m z))) (sym c.expect_ty.ensures)
           (and_parts (known (part_tree m y)) true p.1).0;
     }
 
@@ -73,8 +73,8 @@ returns g c =
     let o = c.in_ok-types.ensures in
     let e : signature_tree n made ≡ over t us =
     ap (λ z. node (signature h.c_variadic h.safety h.abi) z)
-    (ap₂ (λ a b. cons a (cons b nil)) (ap (λ z. node inputs z) o.inputs ∙ ap (part_tree m) c.the_inputs.ensures)
-    (o.output ∙ ap (part_tree m) c.the_ty.ensures) ∙ whole) in
+    (ap₂ (λ a b. cons a (cons b nil)) (ap (λ z. node inputs z) o.inputs ∙ ap (part_tree m) c.expect_inputs.ensures)
+    (o.output ∙ ap (part_tree m) c.expect_ty.ensures) ∙ whole) in
     record {
       grown = o.grown;
       sure = over_known t us (signature_tree n made) e c.requires.term_known c.requires.parts_known;

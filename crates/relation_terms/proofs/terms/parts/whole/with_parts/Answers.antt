@@ -23,8 +23,8 @@ returns-in-ValueType g c =
     let f = subst (λ p. Fit xs (parts_of (part_tree m p))) c.in-ValueType.is c.requires.fits in
     let x = c.index-parts-0.result in
     let o = fit_one m (part_tree m) xs (m.ty c.in-ValueType.field-0) x x f c.index-parts-0.is in
-    let w = node value_type (cons (m.ty c.the_ty.result) nil) in
-    let e : w ≡ over t us = ap (λ p. node value_type (cons (part_tree m p) nil)) c.the_ty.ensures
+    let w = node value_type (cons (m.ty c.expect_ty.result) nil) in
+    let e : w ≡ over t us = ap (λ p. node value_type (cons (part_tree m p) nil)) c.expect_ty.ensures
     ∙ ap (node value_type) o.0 ∙ ap (λ p. over (part_tree m p) us) (sym c.in-ValueType.is) in
     record {
       grown = stays_same m;
@@ -33,8 +33,8 @@ returns-in-ValueType g c =
       sort = ap part_sort (sym c.in-ValueType.is);
     }
 
-pub the_ty-requires : goal.the_ty-requires
-the_ty-requires g c =
+pub expect_ty-requires : goal.expect_ty-requires
+expect_ty-requires g c =
     let m = g.I.Interner.meaning c.args.cx.now in
     let xs = c.args.parts.now in
     let ty = c.in-ValueType.field-0 in

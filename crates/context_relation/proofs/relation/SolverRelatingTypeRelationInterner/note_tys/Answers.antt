@@ -6,7 +6,7 @@ use Rattle.relation_semantics.proofs.Remembering.{noted_remembering}
 use Rattle.relation_combining.specs.Solving.{solving_through, solver_manner}
 use Rattle.context_relation.proofs.Recalling.{noted_pair}
 use Rattle.relation_steps.proofs.Sorted.{ty_sorted}
-use Rattle.context_relation.proofs.relation.SolverRelatingTypeRelationInterner.tys_done.Goals as goal
+use Rattle.context_relation.proofs.relation.SolverRelatingTypeRelationInterner.note_tys.Goals as goal
 
 pub remember-requires : goal.remember-requires
 remember-requires g c =

@@ -1,5 +1,5 @@
 use Rattle.context_relation.proofs.Solving.{solver_with}
-use Rattle.context_relation.proofs.emitting.SolverRelatingPredicateEmittingRelation.context_grows.Goals as goal
+use Rattle.context_relation.proofs.emitting.SolverRelatingPredicateEmittingRelation.lemma_context_grows.Goals as goal
 
 pub returns : goal.returns
 returns g c = λ x h later l.

@@ -4,7 +4,7 @@ use Rattle.reference_interner.proofs.ItemLemmas.{same_entry}
 use Rattle.reference_interner.proofs.OnceLemmas.{known_alone, found, fresh}
 use Rattle.reference_interner.specs.Adding.{items_in}
 use Rattle.reference_interner.specs.Items.{no_items}
-use Rattle.reference_interner.proofs.RefInterner.add.Goals as goal
+use Rattle.reference_interner.proofs.RefInterner.intern.Goals as goal
 
 pub returns-in-Some-clause-number : goal.returns-in-Some-clause-number
 returns-in-Some-clause-number c =

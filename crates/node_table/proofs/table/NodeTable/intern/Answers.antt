@@ -3,7 +3,7 @@ use Rattle.std.specs.List.{list_any}
 use Rattle.std.proofs.lemmas.Bool.{false≢true}
 use Rattle.node_table.specs.Finding.{HasAt}
 use Rattle.node_table.proofs.Finding.{is_found, put_nowhere, has_equal}
-use Rattle.node_table.proofs.table.NodeTable.add.Goals as goal
+use Rattle.node_table.proofs.table.NodeTable.intern.Goals as goal
 
 pub returns-in_err-index-clause-there : goal.returns-in_err-index-clause-there
 returns-in_err-index-clause-there g c =

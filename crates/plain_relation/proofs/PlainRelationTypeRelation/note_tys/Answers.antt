@@ -1,6 +1,6 @@
 use Rattle.plain_relation.specs.Plain.{plain_state}
 use Rattle.relation_semantics.proofs.Passing.{noted_nothing}
-use Rattle.plain_relation.proofs.PlainRelationTypeRelation.tys_done.Goals as goal
+use Rattle.plain_relation.proofs.PlainRelationTypeRelation.note_tys.Goals as goal
 
 pub returns : goal.returns
 returns g c =

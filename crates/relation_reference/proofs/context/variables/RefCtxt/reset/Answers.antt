@@ -1,6 +1,6 @@
 use Rattle.std.proofs.Common.{ap, ◌∙◌, map}
 use Rattle.relation_reference.proofs.New.{new_lawful}
-use Rattle.relation_reference.proofs.context.variables.RefCtxt.renewed.Goals as goal
+use Rattle.relation_reference.proofs.context.variables.RefCtxt.reset.Goals as goal
 
 pub returns-clause-lawful : goal.returns-clause-lawful
 returns-clause-lawful g c =

@@ -1,5 +1,5 @@
 use Rattle.context_relation.proofs.Solving.{solver_grows}
-use Rattle.context_relation.proofs.relation.SolverRelatingTypeRelationInterner.interner_grows.Goals as goal
+use Rattle.context_relation.proofs.relation.SolverRelatingTypeRelationInterner.lemma_interner_grows.Goals as goal
 
 pub returns : goal.returns
 returns g c = λ cx e l.
@@ -7,4 +7,4 @@ returns g c = λ cx e l.
     let s = g.Infcx.InferCtxtLike.state r.infcx.now in
     solver_grows r.structurally_relate_aliases r.infcx.ghost_name r.cache.pairs.kept r.goals.items s
     (g.Infcx.InferCtxtLike.state (g.Infcx.InferCtxtLike.with_interner r.infcx.now cx)) _ e
-    (c.interner_grows.ensures cx e l.0.0) r.ambient_variance r.param_env l.1
+    (c.lemma_interner_grows.ensures cx e l.0.0) r.ambient_variance r.param_env l.1

@@ -1,6 +1,6 @@
 use Rattle.context_relation.specs.SolverTerms.{solver_through}
 use Rattle.context_relation.proofs.StepsAlone.{asks_open}
-use Rattle.context_relation.proofs.relation.SolverRelatingTypeRelationInterner.ty_args_done.Goals as goal
+use Rattle.context_relation.proofs.relation.SolverRelatingTypeRelationInterner.note_ty_args.Goals as goal
 
 pub returns-clause-asks : goal.returns-clause-asks
 returns-clause-asks g c = asks_open (solver_through g.Infcx.InferCtxtLike.state c.args.self.now)

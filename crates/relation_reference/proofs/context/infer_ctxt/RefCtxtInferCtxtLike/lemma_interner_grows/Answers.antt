@@ -1,6 +1,6 @@
 use Rattle.std.proofs.Common.{refl}
 use Rattle.variable_tables.proofs.Grows.{store_grows, lawful_grows}
-use Rattle.relation_reference.proofs.context.infer_ctxt.RefCtxtInferCtxtLike.interner_grows.Goals as goal
+use Rattle.relation_reference.proofs.context.infer_ctxt.RefCtxtInferCtxtLike.lemma_interner_grows.Goals as goal
 
 pub returns : goal.returns
 returns g c = λ cx e l.
