@@ -8,10 +8,9 @@ use Rattle.relation_terms.proofs.Orders.{order_count, order_list, below_in_order
 use Rattle.relation_terms.specs.Interning.{Sorted}
 use Rattle.relation_terms.proofs.Members.{member_small, parts_small}
 use Rattle.relation_terms.proofs.Parts.{sort_known}
-use Rattle.relation_folds.specs.Folds.{inside}
 use Rattle.anonymize.specs.Anonymous.{here, uses, with_vars}
 use Rattle.anonymize.specs.UsedParts.{AllIn, Remembered}
-use Rattle.relation_folds.proofs.Depths.{inside_known}
+use Rattle.relation_folds.proofs.Depths.{inside_known, inside}
 use Rattle.std.proofs.lemmas.Result.{on_ok_weaker}
 use Rattle.relation_folds.proofs.Remembering.{place_eq}
 use Rattle.anonymize.proofs.UsedVars.{all_added, all_there}
