@@ -1,5 +1,5 @@
 -- Binders over the variables that are used in their bodies.
-use Rattle.std.proofs.Common.{ℕ, ◌≡◌, ◌∙◌, refl, sym, ap, ap₂, subst, arith, IsTrue, List, [], ◌∷◌, map, length}
+use Rattle.std.proofs.Common.{ℕ, ◌≡◌, ◌∙◌, refl, sym, ap, ap₂, subst, IsTrue, List, [], ◌∷◌, map, length}
 use Rattle.std.proofs.Common.{Option, Some, None}
 use Rattle.std.proofs.lemmas.Bool.{false≢true}
 use Rattle.relation_terms.specs.Heads.{BoundKind}
@@ -7,6 +7,7 @@ use Rattle.relation_terms.specs.Trees.{Tree, known}
 use Rattle.relation_terms.specs.Meaning.{Meaning, under, bound_kinds}
 use Rattle.relation_terms.specs.declared.terms.binder.BoundVariableKind.{BoundVariableKind}
 use Rattle.relation_folds.specs.Folds.{folded}
+use Rattle.relation_folds.proofs.Lists.{no_member}
 use Rattle.anonymize.specs.declared.used.UsedVar.{UsedVar}
 use Rattle.anonymize.specs.declared.used.UsedVar.TheVariants.{Ty, Region, Const}
 use Rattle.anonymize.specs.Anonymous.{used_vars, named, renames, anonymized, named_as}
@@ -26,10 +27,6 @@ pub anonymized_under : (n : ℕ) (o q : Option (List BoundKind)) (t u : Tree) �
     under q u ≡ anonymized n (under o t)
 anonymized_under n (Some ks) q t u k e f = ap₂ under e f
 anonymized_under n None q t u k e f = absurd (false≢true k)
-
-no_member : {A : Type 0} (xs : List A) → length xs ≡ 0 → xs ≡ []
-no_member [] e = refl
-no_member (x ∷ xs) e = absurd (omega (arith, e))
 
 -- A binder over no variable, of which none is used.
 pub anonymized_already : {Key Id Name : Type 0} (m : Meaning Key Id Name) (n : ℕ) (vars : List (BoundVariableKind Name))

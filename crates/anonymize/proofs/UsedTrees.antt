@@ -28,11 +28,11 @@ use Rattle.relation_terms.proofs.Fields.{predicate_viewed}
 use Rattle.relation_terms.proofs.Parts.{sort_known, known_parts}
 use Rattle.relation_terms.specs.Interning.{Sorted}
 use Rattle.relation_folds.specs.Visits.{is_visited, has_leaf, is_escaping}
-use Rattle.relation_folds.specs.Folds.{inside}
 use Rattle.anonymize.specs.Anonymous.{var_of, uses, ordered, here, with_vars}
 use Rattle.anonymize.specs.declared.used.UsedVar.{UsedVar}
 use Rattle.anonymize.proofs.UsedVars.{with_both}
 use Rattle.relation_folds.proofs.Visiting.{rest, rest_next, rest_end, visited_as}
+use Rattle.relation_folds.proofs.Depths.{inside}
 
 -- What is used in a list in an order.
 uses_behind : (d : ℕ) (t us : Tree) → IsList us → uses d (behind t us) ≡ uses d us ++ uses d t

@@ -1,6 +1,6 @@
 -- Whether the variables that are used of a binder stand at places of its list.
 use Rattle.std.proofs.Common.{◌≡◌, ◌↔◌, ◌∙◌, ◌<◌, ℕ, suc, refl, sym, ap, subst, Bool, true, false, cond, nat_eq, IsTrue}
-use Rattle.std.proofs.Common.{List, [], ◌∷◌, ◌++◌, length, Option, Some, None, option_map}
+use Rattle.std.proofs.Common.{List, [], ◌∷◌, length, Option, Some, None, option_map}
 use Rattle.std.proofs.lemmas.List.{length-map}
 use Rattle.std.proofs.lemmas.List.Elements.{All-nil, All-cons, All-head, All-tail, All-append, All-push}
 use Rattle.std.specs.List.{All}
@@ -15,16 +15,7 @@ use Rattle.anonymize.specs.Anonymous.{var_of, same_var, place_in, ordered, uses,
 use Rattle.anonymize.specs.Anonymous.{used_vars, StandsBelow}
 use Rattle.anonymize.specs.declared.used.UsedVar.{UsedVar}
 use Rattle.anonymize.proofs.UsedVars.{same_is}
-
--- What holds of both of two lists, one behind the other, and of each.
-all_first : {X : Type 0} (P : X → Type 0) (xs ys : List X) → All P (xs ++ ys) → All P xs
-all_first P [] ys a = All-nil P
-all_first P (x ∷ xs) ys a =
-    All-cons P x xs (All-head P x (xs ++ ys) a) (all_first P xs ys (All-tail P x (xs ++ ys) a))
-
-all_second : {X : Type 0} (P : X → Type 0) (xs ys : List X) → All P (xs ++ ys) → All P ys
-all_second P [] ys a = a
-all_second P (x ∷ xs) ys a = all_second P xs ys (All-tail P x (xs ++ ys) a)
+use Rattle.relation_folds.proofs.Lists.{All_front, All_back}
 
 module _ (P : UsedVar → Type 0) where
   -- What holds of a list's variables and of further ones holds of the list with these added, and the other way round.
@@ -39,7 +30,7 @@ module _ (P : UsedVar → Type 0) where
       (All-tail P v vs b)
 
   more_old : (us : List UsedVar) (u : UsedVar) (o : Option ℕ) → All P (one_more us u o) → All P us
-  more_old us u None a = all_first P us (u ∷ []) a
+  more_old us u None a = All_front P us (u ∷ []) a
   more_old us u (Some i) a = a
 
   with_old : (us vs : List UsedVar) → All P (with_vars us vs) → All P us
@@ -62,7 +53,7 @@ module _ (P : UsedVar → Type 0) where
       here u v us i (same_var u v) (All-head P u us a) (λ j q. found us v j q (All-tail P u us a)) refl e
 
   more_new : (us : List UsedVar) (u : UsedVar) (o : Option ℕ) → place_in us u ≡ o → All P (one_more us u o) → P u
-  more_new us u None e a = All-head P u [] (all_second P us (u ∷ []) a)
+  more_new us u None e a = All-head P u [] (All_back P us (u ∷ []) a)
   more_new us u (Some i) e a = found us u i e a
 
   with_new : (us vs : List UsedVar) → All P (with_vars us vs) → All P vs
@@ -98,12 +89,12 @@ module _ (n : ℕ) where
   both_ordered first_last us vs a b = All-append (StandsBelow n) vs us b a
 
   first_ordered : (o : Order) (us vs : List UsedVar) → All (StandsBelow n) (ordered o us vs) → All (StandsBelow n) us
-  first_ordered in_turn us vs a = all_first (StandsBelow n) us vs a
-  first_ordered first_last us vs a = all_second (StandsBelow n) vs us a
+  first_ordered in_turn us vs a = All_front (StandsBelow n) us vs a
+  first_ordered first_last us vs a = All_back (StandsBelow n) vs us a
 
   second_ordered : (o : Order) (us vs : List UsedVar) → All (StandsBelow n) (ordered o us vs) → All (StandsBelow n) vs
-  second_ordered in_turn us vs a = all_second (StandsBelow n) us vs a
-  second_ordered first_last us vs a = all_first (StandsBelow n) vs us a
+  second_ordered in_turn us vs a = All_back (StandsBelow n) us vs a
+  second_ordered first_last us vs a = All_front (StandsBelow n) vs us a
 
   -- What stands within a number uses variables below it, and the other way round.
   uses_below : (d : ℕ) (t : Tree) → AreWithin n d t → All (StandsBelow n) (uses d t)
@@ -129,8 +120,8 @@ module _ (n : ℕ) where
   below_uses d (bind ks t) a = below_uses (suc d) t a
   below_uses d nil a = tt
   below_uses d (cons t ts) a = (
-    below_uses d t (all_first (StandsBelow n) (uses d t) (uses d ts) a),
-    below_uses d ts (all_second (StandsBelow n) (uses d t) (uses d ts) a),
+    below_uses d t (All_front (StandsBelow n) (uses d t) (uses d ts) a),
+    below_uses d ts (All_back (StandsBelow n) (uses d t) (uses d ts) a),
   )
 
 -- A binder binds at places of its list just where all variables that are used stand below the list's length.

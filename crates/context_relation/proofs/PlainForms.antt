@@ -3,7 +3,7 @@
 use Rattle.std.proofs.Common.{◌≡◌, ◌≢◌, ◌⊎◌, ℕ, zero, suc, refl, sym, ap, ap₂, ◌∙◌, inl, inr, subst, subst₂, List, [], ◌∷◌, Bool, true, false, cond, nat_eq, IsTrue}
 use Rattle.term_enums.specs.declared.Variance.{Variance}
 use Rattle.term_enums.specs.declared.Variance.TheVariants.{Bivariant}
-use Rattle.relation_terms.specs.Heads.{Sort, region_sort, const_sort, pattern_sort, existential_sort, value_sort, Kind, region_kind, type_kind, const_kind, kind_sort, BoundKind, bound_kind, bound_sort, VarKind, region_var, var_sort, leaf_sort, head_sort, atom_sort, head_parts}
+use Rattle.relation_terms.specs.Heads.{Sort, region_sort, const_sort, pattern_sort, existential_sort, value_sort, Kind, region_kind, type_kind, const_kind, kind_sort, BoundKind, bound_kind, bound_sort, region_var, var_sort, leaf_sort, head_sort, atom_sort, head_parts}
 use Rattle.relation_terms.specs.Heads.{Atom, existential_auto, not_null_pattern, value_leaf, Head, alias, unevaluated, expression, value, value_type, value_branch, range_pattern, or_pattern, existential_trait, existential_projection, Leaf, variable, bound, placeholder, atom, unknown}
 use Rattle.relation_terms.specs.Trees.{Tree, leaf, node, bind, nil, cons, inst, put, tree_at, apply, known, IsTerm, Fits}
 use Rattle.relation_terms.specs.Erasure.{erase, kept_parts}
@@ -21,6 +21,7 @@ use Rattle.relation_semantics.proofs.Related.{no_region_head}
 use Rattle.context_relation.proofs.PlainTerms.{Good, good_parts, good_first, good_rest, Met, forms_agree, agree_counts, leaves_alike, leaf_form, form_leaf, Alike, const_no_region, value_no_region, sort_no_region, no_alias_head}
 use Rattle.relation_terms.proofs.Members.{const_only, value_only}
 use Rattle.relation_semantics.proofs.Deferring.{normal_not_left}
+use Rattle.relation_semantics.proofs.Building.{region_kind_is}
 use Rattle.relation_recursion.proofs.Compared.{value_shape}
 use Rattle.std.specs.Cmp.Derive.{both_true}
 
@@ -193,18 +194,14 @@ erase-inst ts d (cons t u) h r = ap₂ cons (erase-inst ts d t h r.0) (erase-ins
 abbrev pub RegionsUnbound : Store → Type 0
 RegionsUnbound st = (n : ℕ) → entry_of st region_var n ≡ unbound
 
-region_variable : (k : VarKind) → var_sort k ≡ region_sort → k ≡ region_var
-region_variable region_var e = refl
-region_variable k e = absurd cc
-
 pub read_good : (set : Settings) (st : Store) → RegionsUnbound st → (a t : Tree) → IsReadAs st a t → Good set a → Good set t × (erase a ≡ erase t)
 read_good set st un a t (itself e) f = (subst (Good set) e f, ap erase e)
 read_good set st un a t (by_class k n m e o r) f =
-    let p = region_variable k (subst (Good set) e f).0 in
+    let p = region_kind_is k (subst (Good set) e f).0 in
     let z = read_good set st un (leaf (variable k m)) t r (ap var_sort p, inl tt) in
     (z.0, erase_region a (ap sort_of e ∙ ap var_sort p) ∙ sym (erase_region (leaf (variable k m)) (ap var_sort p)) ∙ z.1)
 read_good set st un a t (by_binding {u = u} k n e b r) f =
-    let p = region_variable k (subst (Good set) e f).0 in
+    let p = region_kind_is k (subst (Good set) e f).0 in
     let z : unbound ≡ bound_to u = sym (un n) ∙ subst (λ j. entry_of st j n ≡ bound_to u) p b in absurd cc
 
 -- What a region comes to names only regions.
@@ -218,7 +215,7 @@ kind_path e = cc
 
 pub no_placeholder : (g : StructurallyRelateAliases) (st : Store) → RegionsUnbound st → (q : BoundKind) (u i : ℕ) (b : Tree) → IsPlainTerm b → sort_of b ≡ region_sort → bound_sort q ≢ region_sort → StandsSeen g (placeholder q u i) (apply (resolved st) b) → ⊥
 unfolding resolved
-no_placeholder g st un q u i (leaf (variable k n)) f e o s = let p = region_variable k f in
+no_placeholder g st un q u i (leaf (variable k n)) f e o s = let p = region_kind_is k f in
     let z : leaf (variable region_var n) ≡ leaf (placeholder q u i) = subst (λ t. StandsSeen g (placeholder q u i) t) (through_none st un _ n) (subst (λ j. StandsSeen g (placeholder q u i) (resolved st j n)) p s) in cc
 no_placeholder g st un q u i (leaf (bound k d j)) f e o s = cc
 no_placeholder g st un q u i (leaf (placeholder k w j)) f e o s = o (ap bound_sort (sym (kind_path s)) ∙ e)

@@ -29,9 +29,9 @@ use Rattle.relation_semantics.specs.Steps.{Taints}
 use Rattle.relation_semantics.specs.Relation.{at}
 use Rattle.relation_semantics.specs.Lawful.{State, Pair, Manners, Stepped, Shown, HasRelated, RemembersRelated, RemembersAtMost, AgreesIn, MeansPair}
 use Rattle.relation_semantics.proofs.Answering.{same_environment, same_settings}
-use Rattle.relation_semantics.proofs.Passing.{shown_by}
 use Rattle.relation_semantics.proofs.Remembering.{hit_is_step, related_as, were_related_more}
 use Rattle.relation_semantics.proofs.Standing.{term_sort_of}
+use Rattle.relation_semantics.proofs.Retelling.{shown_by}
 use Rattle.relation_combining.specs.Combining.{Joins, MeetsTys, RegistersOne, RegistersNone, TaintsAlone, TysCombine, seen}
 use Rattle.relation_combining.specs.Combining.{left_error, right_error, is_deferred, left_open, not_registered, not_left}
 use Rattle.relation_steps.specs.Keyed.{ShownTys, SteppedTys, TysAskNone}

@@ -233,7 +233,7 @@ inst_term ts d (bind ks t) h r i = tt
 inst_term ts d nil h r i = i
 inst_term ts d (cons t u) h r i = i
 
-inst_list : (ts : List Tree) (d : ℕ) (t : Tree) → IsList t → IsList (inst ts d t)
+pub inst_list : (ts : List Tree) (d : ℕ) (t : Tree) → IsList t → IsList (inst ts d t)
 inst_list ts d nil h = tt
 inst_list ts d (cons t u) h = inst_list ts d u h
 inst_list ts d t h = absurd h

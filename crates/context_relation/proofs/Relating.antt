@@ -23,7 +23,7 @@ use Rattle.relation_semantics.specs.Outcomes.{KeepsOne, KeepsUnified}
 use Rattle.relation_semantics.specs.Relation.{Way, at}
 use Rattle.relation_semantics.specs.Stores.{Store}
 use Rattle.relation_semantics.specs.Alphabets.{StaysBuilt}
-use Rattle.relation_semantics.proofs.Building.{built_refused}
+use Rattle.relation_semantics.proofs.BuildingSteps.{built_refused}
 use Rattle.context_relation.specs.Relating.{term_in, AnswersAlone, AnswersAsked, BuildsNoMore, TaintsForError, AsksIfOpen}
 use Rattle.context_relation.specs.Relating.{KeepsEqual, AnswersExactly}
 use Rattle.relation_steps.specs.Alone.{RegistersAlone, RelatesAtOnce, RelatesError}

@@ -40,7 +40,6 @@ use Rattle.relation_semantics.specs.Goals.{Goal, goals_of, KnowsGoal, Registered
 use Rattle.relation_semantics.specs.Headline.{AnswersGoals, KeepsEqualTerms, IsFirstOrderPair}
 use Rattle.relation_semantics.specs.Steps.{AddsConstraint, Equates, IsLater, StaysFull}
 use Rattle.relation_semantics.specs.Alphabets.{StaysBuilt, IsGoalOf}
-use Rattle.relation_semantics.proofs.Building.{built_itself, built_constraint}
 use Rattle.relation_semantics.specs.Outcomes.{Outcome}
 use Rattle.relation_semantics.specs.Measures.{Goes}
 use Rattle.relation_semantics.specs.Parts.{IsFormedConst}
@@ -50,7 +49,7 @@ use Rattle.relation_semantics.proofs.Standing.{term_sort_of}
 use Rattle.relation_semantics.proofs.AgreeingBefore.{regions_agreed}
 use Rattle.relation_semantics.proofs.Beginning.{begins_by, begins_there}
 use Rattle.relation_semantics.specs.Agreeing.{AgreeIn}
-use Rattle.relation_semantics.specs.Lawful.{Verdict, WithMeaning, RegisteredIn, RecordsOf}
+use Rattle.relation_semantics.specs.Lawful.{VerdictAs, WithMeaning, RegisteredIn, RecordsOf}
 use Rattle.relation_semantics.proofs.Going.{goes_nowhere, goes_within, later_itself}
 use Rattle.relation_semantics.proofs.Keeping.{one_itself, one_same, unified_itself, unified_same}
 use Rattle.relation_semantics.proofs.Remembering.{none_related, were_related_later}
@@ -65,6 +64,7 @@ use Rattle.relation_combining.specs.Solving.{KnowsGoals, Held, held_by, kept_in,
 use Rattle.relation_combining.specs.Solving.{HeldRelated, settings_by, solver_settings}
 use Rattle.relation_semantics.specs.Errors.{ErrorOf}
 use Rattle.relation_semantics.proofs.Registered.{goals_stay, goals_known, none_at_invariance, all_but_aliases, first_order_built, first_order_bindings}
+use Rattle.relation_semantics.proofs.BuildingSteps.{built_itself, built_constraint}
 use Rattle.relation_combining.proofs.Exactly.{region_value, regions_exactly}
 use Rattle.relation_semantics.specs.Contexts.{Context}
 use Rattle.relation_semantics.specs.Settings.{Setup}
@@ -441,8 +441,8 @@ module _ {Key Id Name X : Type 0} (j i : Held Key) (gs hs : List (KeyedGoal Key 
           (ap (λ k. solver_settings (k.settings).structurally_relate_aliases i.setup) (h.passes).kept) f
 
       verdict : (r : Result X (RelateFault Key Id Name)) →
-          Verdict solver_manner (solving j gs m was L v e) (solving i hs n now K v e) ((h.passes).added) v a b tree r →
-          Verdict solver_manner (solving (seen_from j j) gs m was L v e) (solving (seen_from j i) hs n now K v e)
+          VerdictAs as_pair solver_manner (solving j gs m was L v e) (solving i hs n now K v e) ((h.passes).added) v a b tree r →
+          VerdictAs as_pair solver_manner (solving (seen_from j j) gs m was L v e) (solving (seen_from j i) hs n now K v e)
           ((h.passes).added) v a b tree r
       verdict (Ok t) o = record {
         outcome = o.outcome;
@@ -518,8 +518,8 @@ module _ {Key Id Name X : Type 0} (j i : Held Key) (gs hs : List (KeyedGoal Key 
       )
 
       verdict : (r : Result X (RelateFault Key Id Name)) →
-          Verdict solver_manner (solving j gs m was L v e) (solving i hs n now K v e) ((h.passes).added) v a b tree r →
-          Verdict solver_manner (solving j gs m was L v e) (solving (forgotten i) hs n now K v e) ((h.passes).added) v a b
+          VerdictAs as_pair solver_manner (solving j gs m was L v e) (solving i hs n now K v e) ((h.passes).added) v a b tree r →
+          VerdictAs as_pair solver_manner (solving j gs m was L v e) (solving (forgotten i) hs n now K v e) ((h.passes).added) v a b
           tree r
       verdict (Ok t) o = record {
         outcome = o.outcome;

@@ -39,8 +39,8 @@ use Rattle.relation_combining.proofs.OpeningBoth.{opened_goes, body_scope, unuse
 use Rattle.relation_combining.proofs.OpeningBoth.{bodies_agree}
 use Rattle.relation_combining.proofs.OpeningBoth.{BothOpened, both_opened, bodies_smaller, bodies_built}
 use Rattle.relation_semantics.specs.Alphabets.{Alphabet, IsBuiltOf, StaysBuilt, MayBind}
-use Rattle.relation_semantics.proofs.Building.{built_itself, built_opened, first_writes}
 use Rattle.relation_semantics.proofs.MakingEach.{each_unbound}
+use Rattle.relation_semantics.proofs.BuildingSteps.{built_itself, built_opened, first_writes}
 
 -- A body in which something is bound outside uses what its binder binds.
 one_uses : (t u : Tree) → (bound_var_escapes t || bound_var_escapes u) ≡ true → StaysWithin 0 t × StaysWithin 0 u → ⊥

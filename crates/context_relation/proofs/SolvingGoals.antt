@@ -27,7 +27,6 @@ use Rattle.relation_semantics.specs.Stores.{MayStandFor}
 use Rattle.relation_semantics.proofs.AgreeingBefore.{root_agreed}
 use Rattle.relation_semantics.proofs.Answering.{may_itself}
 use Rattle.relation_semantics.proofs.Going.{later_itself}
-use Rattle.relation_semantics.proofs.Growing.{All_back}
 use Rattle.relation_semantics.proofs.Registered.{registered_in}
 use Rattle.relation_goals.specs.Emitting.{IsOver, AddsGoals, RegistersGoal, goals_in}
 use Rattle.relation_combining.specs.Solving.{KnowsGoals, solving_through, solver_manner}
@@ -36,6 +35,7 @@ use Rattle.relation_combining.proofs.DeferringSteps.{goal_step}
 use Rattle.relation_combining.proofs.Registering.{none_registered, one_registered, same_later}
 use Rattle.context_relation.proofs.Solving.{solver_with}
 use Rattle.relation_combining.proofs.Turning.{turned}
+use Rattle.relation_folds.proofs.Lists.{All_back}
 
 -- What holds of that a tree is a subtype of another, at covariance, and of that the other is one of it, at
 -- contravariance, holds of what is asked of both.

@@ -3,7 +3,8 @@ use Rattle.std.proofs.Common.{◌≤◌, ◌≡◌, sym, ap, subst, arith, inl, 
 use Rattle.std.proofs.lemmas.List.Elements.{Contains-append_cases, Contains-append_left, Contains-append_right}
 use Rattle.std.specs.List.{Contains}
 use Rattle.elaboration_worklist.specs.Pushes.{IsDistinct}
-use Rattle.elaboration_worklist.proofs.Members.{none_in, first_in, later_in, in_cases}
+use Rattle.elaboration_worklist.proofs.Members.{none_in, later_in, in_cases}
+use Rattle.relation_folds.proofs.Lists.{first_in}
 
 -- Two lists have no member in common.
 abbrev pub Apart : {A : Type 0} → List A → List A → Type 0

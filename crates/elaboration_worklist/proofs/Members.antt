@@ -1,19 +1,17 @@
 -- Members of lists.
 use Rattle.std.proofs.Common.{◌≡◌, ◌⊎◌, refl, ap, ap₂, subst, inl, inr, suc, ◌<◌, arith, false, IsTrue, List, [], ◌∷◌, ◌++◌, map, length}
 use Rattle.std.proofs.lemmas.Bool.{false≢true}
-use Rattle.std.proofs.lemmas.List.Elements.{All-head, All-tail, Contains-append_cases, Contains-append_left}
-use Rattle.std.proofs.lemmas.List.Elements.{Contains-append_right, Contains-push, Contains-push_cases}
+use Rattle.std.proofs.lemmas.List.Elements.{All-head, All-tail, Contains-append_cases}
+use Rattle.std.proofs.lemmas.List.Elements.{Contains-append_right, Contains-push_cases}
 use Rattle.std.specs.List.{All, Contains}
 use Rattle.relation_terms.specs.Trees.{Tree}
+use Rattle.relation_folds.proofs.Lists.{first_in}
 
 -- No list of none has a member.
 pub none_in : {A : Type 0} (x : A) → Contains [] x → ⊥
 none_in x h = omega (arith, h.1)
 
 -- Members of a list that begins with one.
-pub first_in : {A : Type 0} (x : A) (xs : List A) → Contains (x ∷ xs) x
-first_in x xs = Contains-append_left (x ∷ []) xs x (Contains-push [] x)
-
 pub later_in : {A : Type 0} (x : A) (xs : List A) (y : A) → Contains xs y → Contains (x ∷ xs) y
 later_in x xs y h = Contains-append_right (x ∷ []) xs y h
 

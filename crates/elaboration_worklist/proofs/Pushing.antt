@@ -12,8 +12,9 @@ use Rattle.relation_terms.specs.Trees.{Tree, known}
 use Rattle.relation_terms.specs.Interning.{AreEqualAsTrees}
 use Rattle.elaboration_worklist.specs.Pushes.{anon, IsDistinct, Pushes, IsFull}
 use Rattle.elaboration_worklist.proofs.Members.{none_in}
-use Rattle.elaboration_worklist.proofs.Members.{first_in, later_in, in_cases, from_map, map_both}
+use Rattle.elaboration_worklist.proofs.Members.{later_in, in_cases, from_map, map_both}
 use Rattle.elaboration_worklist.proofs.Distinct.{distinct_both}
+use Rattle.relation_folds.proofs.Lists.{first_in}
 
 -- A list of trees with one more behind.
 pub map_push : {A : Type 0} (f : A → Tree) (xs : List A) (x : A) → map f (xs ++ x ∷ []) ≡ map f xs ++ f x ∷ []

@@ -17,6 +17,7 @@ use Rattle.relation_terms.specs.declared.terms.binder.BoundVariableKind.{BoundVa
 use Rattle.relation_terms.specs.declared.terms.binder.BoundVariableKind.TheVariants as variable_of
 use Rattle.relation_folds.specs.Visits.{visited_sort}
 use Rattle.relation_folds.proofs.Visiting.{has_sort}
+use Rattle.relation_folds.proofs.Depths.{is_binder}
 use Rattle.relation_semantics.specs.Stores.{Store}
 use Rattle.relation_terms.specs.declared.terms.keys.BoundVarsKey.{BoundVarsKey}
 use Rattle.may_relate.specs.declared.around.Around.{Around, Nothing, Binder'}
@@ -24,7 +25,7 @@ use Rattle.may_relate.specs.Around.{variable_sort, sorts_around, IsInside}
 use Rattle.may_relate.specs.declared.unfit.Unfit.{Unfit}
 use Rattle.may_relate.specs.declared.unfit.Unfit.TheVariants.{Memory}
 use Rattle.may_relate.specs.Fitting.{FitsAll, FitsOwn, SomeUnfit, OwnUnfit, TellsUnfit}
-use Rattle.may_relate.specs.Fitting.{is_binder, sorts_inside}
+use Rattle.may_relate.specs.Fitting.{sorts_inside}
 
 -- What is so of an error is so of a result that hands it on.
 pub handed_on : {X : Type 0} (r : Result X Unfit) (P : Unfit → Type 0) (e : Unfit) → IsErrAnd r (λ f. f ≡ e) → P e →
@@ -32,11 +33,7 @@ pub handed_on : {X : Type 0} (r : Result X Unfit) (P : Unfit → Type 0) (e : Un
 handed_on (Ok x) P e is p = absurd is
 handed_on (Err f) P e is p = subst P (sym is) p
 
--- What is so is so after `Ok`; and of memory nothing has to be told.
-pub on_ok : {X E : Type 0} (r : Result X E) (P : Type 0) → P → OnOk r P
-on_ok (Ok x) P p = p
-on_ok (Err e) P p = tt
-
+-- Of memory nothing has to be told.
 pub refused : {X : Type 0} (st : Store) (ls : List (List Sort)) (t : Tree) (r : Result X Unfit) →
     IfErr r (λ e. e ≡ Memory) → IfErr r (TellsUnfit st ls t)
 refused st ls t (Ok x) is = tt

@@ -7,10 +7,9 @@
 --   SomeUnfit st ls t e   a leaf of a tree does not, and the reason says why
 --   TellsUnfit st ls t e  so it is, unless the reason is that memory was refused
 --   FitsOwn st ls t       a tree that is a leaf fits; OwnUnfit st ls t e: it is a leaf that does not
---   is_binder s           it is the sort of a binder
 --   sorts_inside t ls     the sorts of what is bound around the parts of a tree
-use Rattle.std.specs.Prelude.{◌≡◌, ◌≢◌, ℕ, ◌<◌, ◌≤◌, ◌⊎◌, Bool, true, false, List, ◌∷◌, map, Some}
-use Rattle.relation_terms.specs.Heads.{Sort, binder_sort, bound_sort, VarKind, type_var, int_var, float_var}
+use Rattle.std.specs.Prelude.{◌≡◌, ◌≢◌, ℕ, ◌<◌, ◌≤◌, ◌⊎◌, List, ◌∷◌, map, Some}
+use Rattle.relation_terms.specs.Heads.{Sort, bound_sort, VarKind, type_var, int_var, float_var}
 use Rattle.relation_terms.specs.Heads.{const_var, region_var}
 use Rattle.relation_terms.specs.Heads.{Leaf, variable, bound, placeholder, atom, unknown}
 use Rattle.relation_terms.specs.Trees.{Tree, leaf, node, bind, nil, cons}
@@ -88,11 +87,6 @@ FitsOwn st ls t = Unit {0}
 abbrev pub OwnUnfit : Store → List (List Sort) → Tree → Unfit → Type 0
 OwnUnfit st ls (leaf l) e = IsUnfit st ls l e
 OwnUnfit st ls t e = ⊥
-
--- The sort of a binder.
-abbrev pub is_binder : Sort → Bool
-is_binder (binder_sort s) = true
-is_binder s = false
 
 -- The sorts of what is bound around the parts of a tree.
 abbrev pub sorts_inside : Tree → List (List Sort) → List (List Sort)

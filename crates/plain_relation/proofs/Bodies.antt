@@ -11,10 +11,10 @@ use Rattle.relation_semantics.specs.Relation.{StaysWithin}
 use Rattle.relation_semantics.specs.Stores.{Store, IsSound, IsTermIn, InContext}
 use Rattle.relation_semantics.specs.Lawful.{Asked, items_of}
 use Rattle.relation_steps.specs.Rounds.{one_round, RoundLeads, Opened}
-use Rattle.relation_semantics.proofs.Building.{built_itself}
 use Rattle.relation_semantics.proofs.Opening.{unused_step}
 use Rattle.relation_combining.proofs.OpeningBoth.{body_scope, unused_stand_ins, bodies_error, bodies_built, bodies_agree, bodies_smaller}
 use Rattle.relation_semantics.proofs.Passing.{passes_nowhere}
+use Rattle.relation_semantics.proofs.BuildingSteps.{built_itself}
 use Rattle.plain_relation.specs.Plain.{IsUnbound, plain_settings, plain_store, plain_state, plain_manner}
 
 -- Nothing escapes from what is not bound.

@@ -27,7 +27,6 @@ use Rattle.relation_semantics.specs.Constraints.{constraint_at, constraint_of}
 use Rattle.plain_relation.specs.Plain.{as_is, plain_settings, plain_store, plain_state, plain_manner}
 use Rattle.relation_semantics.proofs.Full.{full_itself, full_by}
 use Rattle.relation_semantics.proofs.Keeping.{one_itself, unified_itself}
-use Rattle.relation_semantics.proofs.Building.{builds_none, built_itself}
 use Rattle.relation_semantics.proofs.Trees.{all_leaves, apply_own, own_other}
 use Rattle.context_relation.proofs.Constraints.{asked_in, asked_relates, asked_met}
 use Rattle.relation_semantics.specs.Asking.{of_regions}
@@ -43,6 +42,7 @@ use Rattle.relation_semantics.proofs.AgreeingBefore.{regions_agreed}
 use Rattle.relation_semantics.proofs.Beginning.{begins_by}
 use Rattle.relation_semantics.proofs.Erased.{erase_region}
 use Rattle.relation_semantics.proofs.OneUniverse.{keeps_pair, standing_keeps, binds_itself}
+use Rattle.relation_semantics.proofs.BuildingSteps.{builds_none, built_itself}
 use Rattle.variable_tables.proofs.Grows.{known_of_term}
 use Rattle.relation_terms.proofs.Stays.{stays_arg}
 use Rattle.relation_terms.specs.Meaning.{Extends}

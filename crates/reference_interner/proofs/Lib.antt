@@ -1,5 +1,6 @@
 pub mod DefKindLemmas
 pub mod ItemLemmas
+pub mod EntryLemmas
 pub mod TableLemmas
 pub mod AlikeFormLemmas
 pub mod AlikeElementLemmas

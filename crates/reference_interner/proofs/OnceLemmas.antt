@@ -23,10 +23,11 @@ use Rattle.reference_interner.specs.Nodes.{entry_of, entries, table_meaning, kno
 use Rattle.reference_interner.specs.Nodes.{StandsAt, shown}
 use Rattle.reference_interner.specs.Forms.{predicates_form, bound_vars_form}
 use Rattle.reference_interner.specs.Empty.{KnowsNone}
-use Rattle.reference_interner.specs.Places.{length_entries, known_in, of_sort, reads_as_shown, tree_of_key, key_reads}
+use Rattle.reference_interner.specs.Places.{length_entries, known_in, of_sort, tree_of_key, key_reads}
 use Rattle.reference_interner.specs.Laws.{injective, all_sorted, once_clause}
 use Rattle.reference_interner.proofs.ItemLemmas.{same_entry}
 use Rattle.reference_interner.proofs.TableLemmas.{tree_in, entries_snoc, extends_node, at_now}
+use Rattle.reference_interner.proofs.EntryLemmas.{reads_as_shown}
 use Rattle.reference_interner.specs.Items.{Items, no_items}
 
 -- Forms of one entry are one form.

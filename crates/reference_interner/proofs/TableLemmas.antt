@@ -47,8 +47,9 @@ use Rattle.reference_interner.specs.Nodes.{predicates_node, bound_vars_node, kin
 use Rattle.reference_interner.specs.Laws.{clause_same}
 use Rattle.reference_interner.specs.Nodes.{Entry, no_entry, entry, tree_as, meaning_of, form_sort, form_tree, entry_at}
 use Rattle.reference_interner.specs.Nodes.{entry_of, entries_from, entries, table_meaning, known_entry, AllKnown}
-use Rattle.reference_interner.specs.Places.{known_in, of_sort, reads_as_shown, sure_of, tree_of_key, HasKey, key_reads}
+use Rattle.reference_interner.specs.Places.{known_in, of_sort, tree_of_key, HasKey, key_reads}
 use Rattle.reference_interner.proofs.ItemLemmas.{same_entry}
+use Rattle.reference_interner.proofs.EntryLemmas.{reads_as_shown, sure_of}
 use Rattle.reference_interner.specs.Items.{Items, no_items}
 
 abbrev pub sort_in : Entry → NodeSort

@@ -12,7 +12,7 @@ use Rattle.reference_interner.specs.declared.keys.SymbolId.{SymbolId}
 use Rattle.reference_interner.specs.declared.node.Node.{Node}
 use Rattle.reference_interner.specs.Nodes.{NodeSort, ty_node, region_node, const_node, valtree_node, args_node}
 use Rattle.reference_interner.specs.Nodes.{tys_node, branches_node, pat_node, alternatives_node, predicate_node, clauses_node}
-use Rattle.reference_interner.specs.Nodes.{predicates_node, bound_vars_node, same_sort, shown, kinds_in}
+use Rattle.reference_interner.specs.Nodes.{predicates_node, bound_vars_node, shown, kinds_in}
 use Rattle.reference_interner.specs.Nodes.{Entry, no_entry, entry, tree_as, meaning_of, entry_of}
 use Rattle.reference_interner.specs.Nodes.{entries_from, entries, known_entry}
 use Rattle.reference_interner.specs.Items.{Items, no_items}
@@ -33,21 +33,6 @@ known_in ns i k = elim (cases_lt i (length (entries ns))) [
   | inr h ↦ absurd (false≢true (subst (λ e. IsTrue (known_entry e)) (get_or_past (entries ns) i no_entry h) k))
 ]
 
-pub sort_itself : (s : NodeSort) → same_sort s s ≡ true
-sort_itself ty_node = refl
-sort_itself region_node = refl
-sort_itself const_node = refl
-sort_itself valtree_node = refl
-sort_itself pat_node = refl
-sort_itself args_node = refl
-sort_itself tys_node = refl
-sort_itself branches_node = refl
-sort_itself alternatives_node = refl
-sort_itself predicates_node = refl
-sort_itself bound_vars_node = refl
-sort_itself predicate_node = refl
-sort_itself clauses_node = refl
-
 -- An entry that reads as known, at a sort, is one of that sort.
 pub of_sort : (s : NodeSort) (e : Entry) → IsTrue (known (tree_as s e)) → e ≡ entry s (tree_as s e)
 of_sort ty_node (entry ty_node t) k = refl
@@ -65,10 +50,6 @@ of_sort predicate_node (entry predicate_node t) k = refl
 of_sort clauses_node (entry clauses_node t) k = refl
 of_sort s e k = absurd (false≢true k)
 
--- A tree reads as one of its entry's sort.
-pub reads_as_shown : (s : NodeSort) (t : Tree) → tree_as s (entry s t) ≡ shown s t
-reads_as_shown s t = rw (sort_itself s) refl
-
 -- What is shown of an entry is shown once.
 list_once : (t : Tree) → under (kinds_in (under (kinds_in t) nil)) nil ≡ under (kinds_in t) nil
 list_once (bind ks nil) = refl
@@ -81,11 +62,6 @@ list_as e = refl
 pub shown_as : (s : NodeSort) (e : Entry) → shown s (tree_as s e) ≡ tree_as s e
 shown_as bound_vars_node e = list_as e
 shown_as s e = refl
-
--- What is known at a sort is known.
-pub sure_of : (s : NodeSort) (e : Entry) → IsTrue (known (tree_as s e)) → IsTrue (known_entry e)
-sure_of s e k =
-    subst (λ x. IsTrue (known_entry x)) (sym (of_sort s e k)) (subst (λ x. IsTrue (known x)) (sym (shown_as s e)) k)
 
 -- The tree of the key that has a number, at a sort; of a list of variables, a binder over nothing.
 abbrev pub tree_of_key : NodeSort → Meaning NodeKey ItemId SymbolId → ℕ → Tree

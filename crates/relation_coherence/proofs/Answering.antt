@@ -18,11 +18,13 @@ use Rattle.relation_semantics.specs.StepLaws.{InstantiatingAssigns}
 use Rattle.relation_semantics.specs.StoreLaws.{ResolvedResolves}
 use Rattle.relation_semantics.specs.Stores.{Store, IsSound, BindingsAreMet, entry_term, resolved}
 use Rattle.relation_semantics.proofs.Standing.{later_context}
+use Rattle.relation_semantics.proofs.Free.{free}
 use Rattle.relation_coherence.specs.Bounds.{types_bound, WasTooFew}
 use Rattle.relation_coherence.proofs.Bounding.{term_names}
 use Rattle.relation_coherence.specs.Headers.{header_tree, IsClosedHeader, AreOfOneLength, OpensHeaders}
 use Rattle.relation_coherence.specs.Overlaps.{AreApart, AreApartErased, Covers, IsCommon, IsFirstOrderBody, IsFirstOrderHeader}
-use Rattle.relation_coherence.proofs.FirstOrderBodies.{opened_first_order, new_are_variables, list_opened}
+use Rattle.relation_coherence.proofs.FirstOrderBodies.{opened_first_order, new_are_variables}
+use Rattle.context_relation.proofs.RegionTerms.{inst_list}
 use Rattle.relation_coherence.proofs.Overlapping as overlapping
 
 -- Lists of arguments are one where their members are, also up to erasure.
@@ -81,14 +83,14 @@ module _ {Key Id Name : Type 0} (c d : Context Key Id Name) (left right : Binder
       record {
         left = (
           tt,
-          subst IsList (sym (h.first).body_is) (list_opened (h.first).variables 0 ((c.meaning).args left.value) l),
+          subst IsList (sym (h.first).body_is) (inst_list (h.first).variables 0 ((c.meaning).args left.value) l),
           tt,
           subst IsFirstOrder (sym (h.first).body_is) (opened_first_order (h.first).variables v.0
               ((c.meaning).args left.value) (subst (λ n. IsFirstOrderBody n ((c.meaning).args left.value)) v.1 lb)),
         );
         right = (
           tt,
-          subst IsList (sym (h.second).body_is) (list_opened (h.second).variables 0 ((c.meaning).args right.value) r),
+          subst IsList (sym (h.second).body_is) (inst_list (h.second).variables 0 ((c.meaning).args right.value) r),
           tt,
           subst IsFirstOrder (sym (h.second).body_is) (opened_first_order (h.second).variables w.0
               ((c.meaning).args right.value) (subst (λ n. IsFirstOrderBody n ((c.meaning).args right.value)) w.1 rb)),
@@ -152,7 +154,7 @@ module _ {Key Id Name : Type 0} (c d : Context Key Id Name) (left right : Binder
           h.first h.second no_left no_right h.left_in met sound after t
           (later_context h.middle d.store (((h.second).makes).later).grows ((d.meaning).args x) h.left_in)
           sound_after resolving is
-          (λ s f e. let r = keeps overlapping.free s f (ap (λ z. node arguments z) e) in (r.0, r.1, r.2.0)))
+          (λ s f e. let r = keeps free s f (ap (λ z. node arguments z) e) in (r.0, r.1, r.2.0)))
 
     pub common : NewVariablesFit → (after : Store) (t : Tree) → IsSound after → ResolvedResolves →
         t ≡ apply (resolved after) ((d.meaning).args x) →

@@ -6,16 +6,13 @@ use Rattle.relation_terms.specs.Trees.{Tree, Leaves}
 use Rattle.relation_semantics.specs.Binders.{variable_kind, MakesEach, makes_none, makes_next}
 use Rattle.relation_semantics.specs.OneUniverse.{NamesTypesTo, HasOneUniverse, counts_unbound, all_unbound}
 use Rattle.relation_semantics.specs.Steps.{MakesVariable}
-use Rattle.relation_semantics.specs.Stores.{Store, Entry, unbound, sum_over, universe_of, IsMade, IsSound, IsNamable, IsTermIn}
+use Rattle.relation_semantics.specs.Stores.{Store, unbound, sum_over, universe_of, IsMade, IsSound, IsNamable, IsTermIn}
 use Rattle.relation_semantics.proofs.Growing.{old_or_new, universes_stand}
 use Rattle.relation_semantics.proofs.MakingEach.{each_unbound}
 use Rattle.relation_semantics.proofs.NewVariables.{adds, new_universe}
 use Rattle.relation_semantics.proofs.Trees.{Leaves_map}
+use Rattle.relation_semantics.proofs.Tallies.{sum_over_append}
 use Rattle.relation_coherence.specs.Bounds.{counts_kind, types_bound}
-
-sum_one_more : (f : Entry → ℕ) (es : List Entry) (e : Entry) → sum_over f (es ++ e ∷ []) ≡ sum_over f es + f e
-sum_one_more f [] e = omega arith
-sum_one_more f (x ∷ es) e = let ih = sum_one_more f es e in omega (arith, ih)
 
 bound_one_more : (ks : List BoundKind) (k : BoundKind) → types_bound (ks ++ k ∷ []) ≡ types_bound ks + counts_kind k
 bound_one_more [] k = omega arith
@@ -26,13 +23,13 @@ made_unbound : (before after : Store) (k : BoundKind) (n u : ℕ) → MakesVaria
     all_unbound after ≡ all_unbound before + counts_kind k
 made_unbound before after (bound_kind type_kind m) n u q =
     let t : sum_over counts_unbound (after.entries type_var) ≡ sum_over counts_unbound (before.entries type_var) + 1 =
-    ap (sum_over counts_unbound) q.entries_grow ∙ sum_one_more counts_unbound (before.entries type_var) unbound in
+    ap (sum_over counts_unbound) q.entries_grow ∙ sum_over_append counts_unbound (before.entries type_var) unbound in
     let c : sum_over counts_unbound (after.entries const_var) ≡ sum_over counts_unbound (before.entries const_var) =
     ap (sum_over counts_unbound) (q.other_entries const_var (λ e. absurd cc)) in
     omega (arith, t, c)
 made_unbound before after (bound_kind const_kind m) n u q =
     let c : sum_over counts_unbound (after.entries const_var) ≡ sum_over counts_unbound (before.entries const_var) + 1 =
-    ap (sum_over counts_unbound) q.entries_grow ∙ sum_one_more counts_unbound (before.entries const_var) unbound in
+    ap (sum_over counts_unbound) q.entries_grow ∙ sum_over_append counts_unbound (before.entries const_var) unbound in
     let t : sum_over counts_unbound (after.entries type_var) ≡ sum_over counts_unbound (before.entries type_var) =
     ap (sum_over counts_unbound) (q.other_entries type_var (λ e. absurd cc)) in
     omega (arith, t, c)

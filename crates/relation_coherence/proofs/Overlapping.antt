@@ -1,11 +1,11 @@
 -- What two headers have in common, by what relating their opened bodies promises.
 use Rattle.std.specs.Prelude.{get_or}
-use Rattle.std.proofs.Common.{◌≡◌, ℕ, List, [], All, refl, sym, ◌∙◌, ap, subst, inl, inr, None, map}
+use Rattle.std.proofs.Common.{◌≡◌, ℕ, List, All, refl, sym, ◌∙◌, ap, subst, inl, inr, map}
 use Rattle.relation_terms.specs.Heads.{BoundKind, VarKind, Leaf, variable, bound, placeholder, atom, unknown}
 use Rattle.relation_terms.specs.Trees.{Tree, leaf, node, bind, nil, cons, Assign, assigned, apply, inst, Leaves, Occurs}
 use Rattle.relation_terms.specs.Erasure.{erase}
-use Rattle.relation_semantics.specs.Relation.{Interpretation, all_outlive, FitKinds}
-use Rattle.relation_semantics.specs.Stores.{Store, Constraint, outlives_constraint, equal_constraint, InContext}
+use Rattle.relation_semantics.specs.Relation.{Interpretation, FitKinds}
+use Rattle.relation_semantics.specs.Stores.{Store, Constraint, InContext}
 use Rattle.relation_semantics.specs.Stores.{IsSound, Satisfies, ConstraintHolds, BindingsAreMet, IsAssignment}
 use Rattle.relation_semantics.specs.Stores.{resolved, IsNamable}
 use Rattle.relation_semantics.specs.FirstOrder.{Unifies}
@@ -19,6 +19,7 @@ use Rattle.fast_reject.specs.Instances.{IsNoVariable}
 use Rattle.relation_laws.specs.SolutionLaws.{NewVariablesFit}
 use Rattle.relation_coherence.specs.Overlaps.{IsInstanceOf, AreApart, AreApartErased, Covers, IsCommon}
 use Rattle.relation_semantics.proofs.Erased.{solves_erased}
+use Rattle.relation_semantics.proofs.Free.{free, free_holds}
 
 -- A term without variables is its own value.
 closed_leaf : (s : Assign) (l : Leaf) → IsNoVariable l → assigned s l ≡ leaf l
@@ -44,14 +45,6 @@ none_occurs k n (bind ks t) h o = none_occurs k n t h o
 none_occurs k n nil h o = o
 none_occurs k n (cons t ts) h (inl o) = none_occurs k n t h.0 o
 none_occurs k n (cons t ts) h (inr o) = none_occurs k n ts h.1 o
-
--- Under the interpretation in which all regions outlive each other each constraint holds.
-abbrev pub free : Interpretation
-free = record { outlives = None; equal = []; ordered = [] }
-
-free_holds : (s : Assign) (q : Constraint) → ConstraintHolds free s q
-free_holds s (outlives_constraint a b) = all_outlive refl
-free_holds s (equal_constraint a b) = (all_outlive refl, all_outlive refl)
 
 all_hold : (s : Assign) (qs : List Constraint) → All (ConstraintHolds free s) qs
 all_hold s qs = λ k d i. free_holds s (get_or qs k d)

@@ -3,7 +3,7 @@ use Rattle.std.proofs.Common.{◌≡◌, ◌≢◌, ◌∙◌, ℕ, IsTrue, refl
 use Rattle.term_enums.specs.declared.Variance.TheVariants.{Invariant, Bivariant}
 use Rattle.relation_terms.specs.declared.terms.keys.TyKey.{TyKey}
 use Rattle.relation_terms.specs.declared.terms.keys.ConstKey.{ConstKey}
-use Rattle.relation_terms.specs.Heads.{type_sort, const_sort, VarKind, int_var, float_var, const_var, variable}
+use Rattle.relation_terms.specs.Heads.{type_sort, const_sort, const_var, variable}
 use Rattle.relation_terms.specs.Trees.{Tree, leaf, IsTerm, apply, known}
 use Rattle.relation_terms.specs.Meaning.{Meaning, Extends}
 use Rattle.relation_folds.specs.declared.error.TypeError.TheVariants.{Sorts, CyclicConst}
@@ -19,35 +19,28 @@ use Rattle.relation_semantics.specs.ContextCalls.{BindingsAreWellBound, Reads}
 use Rattle.relation_goals.specs.Emitting.{IsOver, WithContext}
 use Rattle.relation_steps.specs.Keyed.{SteppedTys, SteppedConsts}
 use Rattle.relation_steps.specs.Terms.{AskedTerms}
-use Rattle.relation_combining.specs.NumberVars.{number_kind}
-use Rattle.relation_combining.specs.declared.number_vars.NumberVid.{NumberVid}
 use Rattle.relation_semantics.specs.Errors.{itself, HaveNoError, IsDeferred}
 use Rattle.relation_semantics.specs.Generalising.{NumbersNameNothing}
 use Rattle.relation_semantics.specs.Lawful.{State, Asked, Stepped}
 use Rattle.relation_semantics.specs.Parts.{IsRigid, IsFormedConst}
 use Rattle.relation_semantics.specs.Resolving.{IsShallowConst}
 use Rattle.relation_combining.specs.Solving.{solver_manner}
-use Rattle.relation_semantics.specs.Steps.{IsLater, IsNumberKind}
+use Rattle.relation_semantics.specs.Steps.{IsLater}
 use Rattle.relation_semantics.specs.Stores.{Store, IsSound, IsMade, unbound, entry_of, resolved}
 use Rattle.relation_combining.proofs.Binding.{no_region}
 use Rattle.relation_semantics.proofs.Going.{goes_nowhere, later_itself}
 use Rattle.relation_combining.proofs.GeneralisingErrors.{const_cycle_error}
-use Rattle.relation_combining.proofs.NumberVars.{is_number, type_formed}
-use Rattle.relation_semantics.proofs.Numbers.{IsNumber, number_no_region, number_goes}
+use Rattle.relation_combining.proofs.NumberVars.{type_formed}
+use Rattle.relation_semantics.proofs.Numbers.{number_no_region, number_goes}
 use Rattle.relation_semantics.proofs.OneUniverse.{keeps_itself}
 use Rattle.relation_semantics.proofs.Full.{full_itself}
-use Rattle.relation_semantics.proofs.Building.{built_itself}
 use Rattle.relation_combining.proofs.OverContext.{carried, over_it, standing, all_taken, read_by_lists, one_step, roots_step, number_step, number_step_back, left_apart, right_apart, parts_step}
 use Rattle.relation_semantics.proofs.Roots.{roots_goes, exact_itself}
 use Rattle.relation_combining.proofs.Shallowly.{shallow_free_const, variable_made}
 use Rattle.relation_combining.proofs.SolvingVariables.{const_left_step, const_right_step, left_refused, right_refused, const_comes_to_none}
 use Rattle.relation_semantics.proofs.Standing.{term_context, term_within}
 use Rattle.relation_semantics.proofs.AgreeingBefore.{same_agreed}
-
-of_numbers : (k : VarKind) → IsNumberKind k → IsNumber k
-of_numbers int_var h = tt
-of_numbers float_var h = tt
-of_numbers k h = absurd h
+use Rattle.relation_semantics.proofs.BuildingSteps.{built_itself}
 
 module _ {Key Id Name : Type 0} where
   -- Of two types what is recorded afterwards is later.
@@ -55,7 +48,7 @@ module _ {Key Id Name : Type 0} where
       (result : Result (Step (TyKey Key)) (RelateFault Key Id Name)) → IsSound was → MeetsTys m was now a b result →
       IsLater was now
   combined_later m was now a b result sound (equated k i j o p q joins is) =
-      (roots_goes was now k (number_no_region k (of_numbers k o)) i j sound joins.same joins.equates 0).later
+      (roots_goes was now k (number_no_region k o) i j sound joins.same joins.equates 0).later
   combined_later m was now a b result sound (left_bound k i p binds is) = (number_goes was now k i (m.ty b) binds sound 0).later
   combined_later m was now a b result sound (right_bound k i p binds is) = (number_goes was now k i (m.ty a) binds sound 0).later
   combined_later m was now a b result sound (left_unlike u stays is) = subst (IsLater was) (sym stays) (later_itself was)
@@ -73,7 +66,7 @@ module _ {Key Id Name : Type 0} where
         Stepped solver_manner IsRigid (standing r m was L) (standing r n now K) (m.ty a) (m.ty b) n.ty result
     combined_tys same a b result asked s t o p clean left (equated k i j number x y joins is) =
         subst (Stepped solver_manner IsRigid (standing r m was L) (standing r n now K) (m.ty a) (m.ty b) n.ty) (sym is)
-        (roots_step r IsRigid m n was now L K k (number_no_region k (of_numbers k number)) i j (m.ty a) (m.ty b) n.ty a same
+        (roots_step r IsRigid m n was now L K k (number_no_region k number) i j (m.ty a) (m.ty b) n.ty a same
         sound l joins.same joins.equates x y (ap (λ z. z.ty a) same))
     combined_tys same a b result asked s t o p clean left (left_bound k i x binds is) =
         subst (Stepped solver_manner IsRigid (standing r m was L) (standing r n now K) (m.ty a) (m.ty b) n.ty) (sym is)
@@ -86,13 +79,13 @@ module _ {Key Id Name : Type 0} where
     combined_tys same a b result asked s t o p clean left (left_unlike u stays is) =
         subst (Stepped solver_manner IsRigid (standing r m was L) (standing r n now K) (m.ty a) (m.ty b) n.ty) (sym is)
         (left_apart r IsRigid m n was now L K decides a b n.ty (Unrelated (Sorts (record { expected = a; found = b })))
-        same stays l refl u.kind (of_numbers u.kind u.of_numbers) u.number
+        same stays l refl u.kind u.of_numbers u.number
         (variable_made was u.kind u.number (m.ty a) u.is asked.left_in) asked.left_known asked.right_known left u.is t
         p (term_context was (m.ty b) asked.right_in) u.unlike clean.1)
     combined_tys same a b result asked s t o p clean left (right_unlike u stays is) =
         subst (Stepped solver_manner IsRigid (standing r m was L) (standing r n now K) (m.ty a) (m.ty b) n.ty) (sym is)
         (right_apart r IsRigid m n was now L K decides a b n.ty (Unrelated (Sorts (record { expected = a; found = b })))
-        same stays l refl u.kind (of_numbers u.kind u.of_numbers) u.number
+        same stays l refl u.kind u.of_numbers u.number
         (variable_made was u.kind u.number (m.ty b) u.is asked.right_in) asked.left_known asked.right_known left u.is s
         o (term_context was (m.ty a) asked.left_in) u.unlike clean.0)
     combined_tys same a b result asked s t o p clean left (ty_variable (inl u) stays is) = absurd (o u.0 u.1)
@@ -202,14 +195,6 @@ module _ {Key Id Name : Type 0} where
       (λ h. (h, exact_itself r.store ((r.meaning).const_ a) ((r.meaning).const_ b) e)) (keeps_itself r.store)
       (full_itself r.store) (built_itself r.store ((r.meaning).const_ a) ((r.meaning).const_ b)) (inl refl) sure
       (λ set c st g l. same_agreed set c st r.ambient ((r.meaning).const_ a) ((r.meaning).const_ b) e)
-
-is_number_kind_of : (k : VarKind) → IsNumber k → IsNumberKind k
-is_number_kind_of int_var h = tt
-is_number_kind_of float_var h = tt
-is_number_kind_of k h = absurd h
-
-pub is_number_kind : (v : NumberVid) → IsNumberKind (number_kind v)
-is_number_kind v = is_number_kind_of (number_kind v) (is_number v)
 
 -- The same over a relation that has recorded what a context has, where the context after it took its place.
 module _ {Key Id Name : Type 0} (r : State Key Id Name) (c d : Context Key Id Name) (o : IsOver r c)

@@ -30,7 +30,6 @@ use Rattle.relation_semantics.proofs.AgreeingBefore.{left_agreed}
 use Rattle.relation_semantics.proofs.Beginning.{begins_by}
 use Rattle.relation_semantics.proofs.AliasOutcomes.{errors_relate, alias_goals_relate, alias_goals_relate_consts, ambiguous_relates}
 use Rattle.relation_semantics.proofs.Answering.{may_itself}
-use Rattle.relation_semantics.proofs.Building.{builds_asking, built_same, builds_tainted}
 use Rattle.relation_semantics.proofs.Full.{full_same, full_by}
 use Rattle.relation_semantics.proofs.Going.{goes_within}
 use Rattle.relation_semantics.proofs.Keeping.{one_same, unified_same}
@@ -47,6 +46,7 @@ use Rattle.relation_semantics.proofs.Deferring.{opaque_is_alias, beside_is_opaqu
 use Rattle.relation_combining.proofs.GoalPasses.{goal_passes, no_goal_passes, begins_asking}
 use Rattle.relation_combining.proofs.OpeningBoth.{changes_goes}
 use Rattle.relation_semantics.proofs.Erased.{alias_not_first, error_not_first}
+use Rattle.relation_semantics.proofs.BuildingSteps.{builds_asking, built_same, builds_tainted}
 use Rattle.relation_steps.proofs.Errors.{error_agreed}
 
 error_in_alphabet : (k : Alphabet) (t : Tree) → IsError t → IsBuiltOf k t → HasNoError k → ⊥

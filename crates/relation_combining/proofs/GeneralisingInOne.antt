@@ -15,9 +15,10 @@ use Rattle.relation_combining.specs.UniverseLaws.{GeneralisingKeepsUniverse}
 use Rattle.relation_semantics.specs.Generalising.{Stays, gives_way_to, Stage, Turn, any_part, new_part, parts_from, Generalised, met_before, met_first, no_type, stays, gives_way, alias_gives_way, by_parts, in_binder, no_parts, next_part, variance_for, InstantiatesBy, NumbersNameNothing}
 use Rattle.relation_steps.proofs.Fronts.{IsLookedAt, part_invariant}
 use Rattle.relation_semantics.proofs.Instantiating.{resolved_first_order}
-use Rattle.relation_semantics.proofs.BindingGeneralised.{generalised_instantiates, first_order_lacks}
+use Rattle.relation_semantics.proofs.BindingGeneralised.{generalised_instantiates}
 use Rattle.relation_semantics.proofs.OneUniverse.{roots_fall, bound_names, all_named}
 use Rattle.relation_semantics.proofs.Standing.{term_context}
+use Rattle.relation_semantics.proofs.GeneralisedLeaves.{first_order_lacks}
 use Rattle.std.proofs.lemmas.Option.{same_Some}
 
 -- No variable of a type or a constant was made.

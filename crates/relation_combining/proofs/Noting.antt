@@ -17,7 +17,8 @@ use Rattle.relation_semantics.specs.Lawful.{State, Pair, Passes, Noted, MeansPai
 use Rattle.relation_semantics.specs.Recording.{AreBare}
 use Rattle.relation_semantics.proofs.Answering.{same_settings}
 use Rattle.relation_semantics.proofs.Going.{goes_nowhere}
-use Rattle.relation_semantics.proofs.Passing.{passes_then, passes_nowhere, passes_grown}
+use Rattle.relation_semantics.proofs.Passing.{passes_then, passes_nowhere}
+use Rattle.relation_semantics.proofs.Retelling.{passes_grown}
 
 module _ {Key Id Name : Type 0} where
   -- A pair of two terms is so while keys are added to.

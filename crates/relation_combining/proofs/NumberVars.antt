@@ -20,10 +20,10 @@ use Rattle.term_enums.specs.declared.IntTy.{IntTy}
 use Rattle.term_enums.specs.declared.UintTy.{UintTy}
 use Rattle.term_enums.specs.declared.FloatTy.{FloatTy}
 use Rattle.relation_semantics.specs.Relation.{StaysWithin}
-use Rattle.relation_semantics.specs.Steps.{IsNumberFor}
+use Rattle.relation_semantics.specs.Steps.{IsNumberFor, IsNumberKind}
 use Rattle.relation_semantics.specs.Relation.{StaysWithin}
 use Rattle.relation_semantics.specs.Parts.{IsRigid}
-use Rattle.relation_semantics.proofs.Numbers.{IsNumber, type_is_formed}
+use Rattle.relation_semantics.proofs.Numbers.{type_is_formed}
 use Rattle.relation_semantics.specs.NumberValues.{int_value_tree, float_value_tree}
 use Rattle.relation_combining.specs.declared.number_vars.NumberVid.{NumberVid}
 use Rattle.relation_combining.specs.declared.number_vars.NumberVid.TheVariants as vid
@@ -43,7 +43,7 @@ type_formed t s w a i f = type_is_formed t s w apart
     apart const_var n e = subst (IsTerm type_sort) e s
     apart region_var n e = subst (IsTerm type_sort) e s
 
-not_true : (b : Bool) → IsTrue (not b) → b ≡ false
+pub not_true : (b : Bool) → IsTrue (not b) → b ≡ false
 not_true false h = refl
 not_true true h = absurd (false≢true h)
 
@@ -59,7 +59,7 @@ free_formed t f e without s w = type_formed t s w (λ n. apart (variable type_va
     apart : (l : Leaf) → is_non_region_variable l ≡ true → t ≢ leaf l
     apart l y o = false≢true (sym free ∙ ap has_non_region_infer o ∙ y)
 
-pub is_number : (v : NumberVid) → IsNumber (number_kind v)
+pub is_number : (v : NumberVid) → IsNumberKind (number_kind v)
 is_number (vid.Int v) = tt
 is_number (vid.Float v) = tt
 

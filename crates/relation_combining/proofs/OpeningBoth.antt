@@ -18,7 +18,7 @@ use Rattle.relation_semantics.specs.Steps.{ChangesNothing, EntersForall, LeavesB
 use Rattle.relation_semantics.specs.Steps.{IsLater, ArePlaceholders}
 use Rattle.relation_semantics.specs.Outcomes.{StepsTo}
 use Rattle.relation_semantics.specs.Alphabets.{Alphabet, IsBuiltOf, StaysBuilt, BuiltFrom, MayBind}
-use Rattle.relation_semantics.proofs.Building.{body_built, built_opened, each_writes}
+use Rattle.relation_semantics.proofs.Building.{body_built}
 use Rattle.relation_semantics.specs.Measures.{Goes}
 use Rattle.relation_semantics.specs.Settings.{Settings}
 use Rattle.relation_semantics.specs.Errors.{IsStandIn, StandFor, ErrorOf, of_bodies}
@@ -40,6 +40,7 @@ use Rattle.relation_combining.proofs.OpenedTerms.{entered_body_is_in, instantiat
 use Rattle.relation_combining.proofs.OpenedTerms.{instantiated_body_binds}
 use Rattle.relation_semantics.proofs.Opening.{changes_later, opening_steps}
 use Rattle.relation_semantics.proofs.Going.{goes_then}
+use Rattle.relation_semantics.proofs.BuildingSteps.{built_opened, each_writes}
 use Rattle.relation_goals.proofs.Entering.{changes_made}
 
 -- What changes nothing leaves sizes, costs nothing and stays sound.

@@ -31,9 +31,9 @@ use Rattle.relation_semantics.proofs.StoreCalls.{number_stands}
 use Rattle.relation_semantics.specs.Stores.{Store, unbound, entry_of, IsSound, Satisfies, IsMade, InContext, MayStandFor}
 use Rattle.relation_semantics.specs.Stores.{weight}
 use Rattle.relation_semantics.specs.Goals.{Goal, GoalInContext, MakesOneTree}
-use Rattle.relation_semantics.specs.Steps.{IsLater, Equates, InstantiatesNumber, StaysFull}
+use Rattle.relation_semantics.specs.Steps.{IsLater, Equates, InstantiatesNumber, StaysFull, IsNumberKind}
 use Rattle.relation_semantics.specs.Alphabets.{StaysBuilt, IsBuiltOf}
-use Rattle.relation_semantics.proofs.Building.{built_itself, builds_number, read_from}
+use Rattle.relation_semantics.proofs.Building.{read_from}
 use Rattle.relation_semantics.specs.Outcomes.{Exact, NoEqualTerms, NoUnifier}
 use Rattle.relation_semantics.specs.Measures.{Goes}
 use Rattle.relation_semantics.specs.Errors.{ErrorOf, IsDeferred, of_entries, IsReadAs, itself, by_class, by_binding}
@@ -51,9 +51,10 @@ use Rattle.relation_semantics.proofs.ReadAs.{read_value, read_later, read_weight
 use Rattle.relation_semantics.specs.OneUniverse.{KeepsUniverse}
 use Rattle.relation_semantics.proofs.OneUniverse.{keeps_pair, binds_itself, reading_leads}
 use Rattle.relation_semantics.proofs.Roots.{roots_goes, roots_equal, roots_keep, roots_exactly, roots_universe, roots_full, roots_built, exact_turned}
-use Rattle.relation_semantics.proofs.Numbers.{IsNumber, number_goes, number_equal, number_keep, number_exactly, number_apart}
+use Rattle.relation_semantics.proofs.Numbers.{number_goes, number_equal, number_keep, number_exactly, number_apart}
 use Rattle.relation_semantics.proofs.Numbers.{number_universe, number_full}
 use Rattle.relation_semantics.proofs.Numbers.{number_no_unifier, number_error, number_error_back}
+use Rattle.relation_semantics.proofs.BuildingSteps.{built_itself, builds_number}
 use Rattle.relation_combining.proofs.Exactly.{read_pair, reading_exact}
 
 -- Two roots that are made one agreed.
@@ -238,7 +239,7 @@ module _ {Key Id Name : Type 0} (r : State Key Id Name) where
   module _ {X : Type 0} (F : Tree → Type 0) (m n : Meaning Key Id Name) (was now : Store) (L K : Type 0)
       (decides : r.ambient ≢ Bivariant) (p q : TyKey Key) (tree : X → Tree)
       (f : RelateFault Key Id Name) (same : n ≡ m) (stays : now ≡ was) (l : L → K)
-      (is : f ≡ Unrelated (Sorts (record { expected = p; found = q }))) (k : VarKind) (number : IsNumber k) (i : ℕ)
+      (is : f ≡ Unrelated (Sorts (record { expected = p; found = q }))) (k : VarKind) (number : IsNumberKind k) (i : ℕ)
       (made : IsMade was k i) (p_known : IsTrue (known (m.ty p))) (q_known : IsTrue (known (m.ty q)))
       (left : IsDeferred r.kept.settings (m.ty p) (m.ty q) → ⊥) where
     pub left_apart : m.ty p ≡ leaf (variable k i) → IsTerm type_sort (m.ty q) →

@@ -22,7 +22,6 @@ use Rattle.relation_semantics.specs.Headline.{IsFirstOrderPair}
 use Rattle.relation_semantics.specs.Steps.{IsLater, Instantiates, RefusesToInstantiate, InstantiatesNone, StaysFull}
 use Rattle.relation_semantics.specs.Alphabets.{Alphabet, IsBuiltOf, BindsBuiltOf, IsPredicateOf, IsGoalOf, Builds, StaysBuilt}
 use Rattle.relation_combining.proofs.BoundInPlace.{bound_left, bound_right}
-use Rattle.relation_semantics.proofs.Building.{term_built, builds_instantiated, builds_noting, built_same, built_unbound}
 use Rattle.relation_semantics.proofs.Passing.{passes_then}
 use Rattle.relation_semantics.proofs.Registered.{alias_registered, alias_built}
 use Rattle.relation_semantics.specs.Outcomes.{Outcome, StepsTo, CarriesOver, ExactStep, KeepsOne}
@@ -59,7 +58,7 @@ use Rattle.relation_semantics.proofs.Opening.{instantiating_steps}
 use Rattle.relation_semantics.proofs.Exactness.{instantiating_is_exact_step}
 use Rattle.relation_semantics.proofs.AliasSteps.{no_larger}
 use Rattle.relation_semantics.proofs.Instantiating.{resolved_first_order}
-use Rattle.relation_semantics.proofs.BindingGeneralised.{generalised_instantiates, generalised_goes, generalised_weights, generalised_first_order, first_order_lacks}
+use Rattle.relation_semantics.proofs.BindingGeneralised.{generalised_instantiates, generalised_goes, generalised_weights, generalised_first_order}
 use Rattle.relation_combining.proofs.BindingRefused.{generalising_refuses, refused}
 use Rattle.relation_combining.proofs.GeneralisingErrors.{beyond_error}
 use Rattle.relation_semantics.proofs.NewVariables.{Adds, adds, adds_goes}
@@ -69,6 +68,8 @@ use Rattle.relation_semantics.specs.OneUniverse.{NamesTypesTo, HasOneUniverse, a
 use Rattle.relation_semantics.proofs.OneUniverse.{binds_none, bound_fewer}
 use Rattle.relation_combining.proofs.GeneralisingInOne.{instantiates_in_one}
 use Rattle.relation_semantics.proofs.Erased.{alias_not_first}
+use Rattle.relation_semantics.proofs.BuildingSteps.{term_built, builds_instantiated, builds_noting, built_same, built_unbound}
+use Rattle.relation_semantics.proofs.GeneralisedLeaves.{first_order_lacks}
 use Rattle.relation_combining.proofs.Binding.{no_region}
 
 -- What a term comes to is a variable only where the term is one.

@@ -1,11 +1,12 @@
 -- What is related at a variance is related the other way round, seen from the other side.
-use Rattle.std.proofs.Common.{◌≡◌, ◌⊎◌, ℕ, refl, sym, ap, ◌∙◌, inl, inr, subst, List, [], ◌∷◌}
+use Rattle.std.proofs.Common.{◌≡◌, ℕ, refl, sym, ap, ◌∙◌, subst, List, [], ◌∷◌}
 use Rattle.term_enums.specs.declared.Variance.{Variance}
 use Rattle.term_enums.specs.declared.Variance.TheVariants.{Covariant, Contravariant, Invariant, Bivariant}
 use Rattle.term_enums.specs.Variances.{xform}
 use Rattle.relation_terms.specs.Heads.{BoundKind, AliasTermKind, type_alias, opaque_alias, Head, alias, alias_term, value_type}
 use Rattle.relation_terms.specs.Trees.{Tree}
 use Rattle.relation_semantics.specs.Relation.{Items, Interpretation, Fresh, RegionRule, AliasRule, IsEqualPair, at, parts, second_opened, first_opened, Rel, same, anything, error_left, error_right, regions, alias_types, equal_consts, atoms, forms, no_parts, next_part, covariant_binders, contravariant_binders, invariant_binders, open_second, open_first, mode, alias_term_variance, plain_kind, plain, part_at, IsRelatedHead}
+use Rattle.relation_semantics.proofs.AgreeingOpened.{swapped}
 
 abbrev other : Variance → Variance
 other v = xform v Contravariant
@@ -55,10 +56,6 @@ rule_turned w Covariant a b r = r
 rule_turned w Contravariant a b r = r
 rule_turned w Invariant a b r = (r.1, r.0)
 rule_turned w Bivariant a b r = tt
-
-swapped : {A B : Type 0} → A ⊎ B → B ⊎ A
-swapped (inl a) = inr a
-swapped (inr b) = inl b
 
 equal_turned : (w : Interpretation) (e a b : Tree) → IsEqualPair w e a b → IsEqualPair w e b a
 equal_turned w e a b r = (swapped r.0, swapped r.1)

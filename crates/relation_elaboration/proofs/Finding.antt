@@ -20,10 +20,11 @@ use Rattle.relation_statements.specs.Children.{mode_of}
 use Rattle.relation_elaboration.specs.Pulling.{Elaboration, Pulls, RunsTo, ByClosure, standing, named}
 use Rattle.relation_statements.specs.TraitClauses.{reference_of}
 use Rattle.relation_elaboration.specs.Finding.{PassesOver, FindsNext, FindsAll, TraitsByClosure}
-use Rattle.elaboration_worklist.proofs.Members.{first_in, later_in, in_cases, map_both}
+use Rattle.elaboration_worklist.proofs.Members.{later_in, in_cases, map_both}
 use Rattle.elaboration_worklist.proofs.Members.{none_in}
 use Rattle.relation_statements.proofs.Growing.{states_stay, stays_bound}
 use Rattle.relation_statements.proofs.Closing.{anon_same}
+use Rattle.relation_folds.proofs.Lists.{first_in}
 
 module _ {I Key Id Name : Type 0} (meaning : I → Meaning Key Id Name) where
   abbrev State : Type 0

@@ -10,10 +10,21 @@ use Rattle.relation_terms.specs.declared.terms.part_kind.Part.TheVariants.{Binde
 use Rattle.relation_terms.specs.declared.terms.part_kind.Part.TheVariants.{Object}
 use Rattle.relation_terms.specs.Interning.{Sorted}
 use Rattle.relation_terms.proofs.Parts.{sort_known}
-use Rattle.relation_folds.specs.Folds.{inside, inside_part}
-use Rattle.relation_folds.specs.Visits.{deeper, told_inside, told_inside_part, is_visited}
+use Rattle.relation_folds.specs.Folds.{inside_part}
+use Rattle.relation_folds.specs.Visits.{deeper, told_inside_part, is_visited}
 
-abbrev is_binder : Sort → Bool
+-- How many binders stand around the parts of a tree: those around the tree, and the tree itself where it is one.
+abbrev pub inside : Tree → ℕ → ℕ
+inside (bind ks t) depth = suc depth
+inside t depth = depth
+
+-- The depth that a visitor is told at the parts of a tree.
+abbrev pub told_inside : Tree → ℕ → ℕ
+told_inside (bind ks t) d = deeper d
+told_inside t d = d
+
+-- The sort of a binder.
+abbrev pub is_binder : Sort → Bool
 is_binder (binder_sort s) = true
 is_binder s = false
 

@@ -22,9 +22,10 @@ use Rattle.relation_terms.proofs.Predicates.{stays_predicate_kind}
 use Rattle.relation_terms.proofs.Stays.{knows_as}
 use Rattle.relation_folds.specs.declared.visit.Visit.{Visit}
 use Rattle.relation_folds.specs.declared.visit.Visit.TheVariants.{Enter}
-use Rattle.relation_folds.specs.Visits.{is_visited, told_inside, Flow, Walks, no_part, last_part, next_part}
+use Rattle.relation_folds.specs.Visits.{is_visited, Flow, Walks, no_part, last_part, next_part}
 use Rattle.relation_folds.specs.Folds.{folded}
 use Rattle.relation_folds.proofs.Visiting.{when_entered}
+use Rattle.relation_folds.proofs.Depths.{told_inside}
 
 module _ {V : Type 0} (visits : V → ℕ → Tree → V → Visit → Type 0) (v w : V) where
   -- Over a list of one part.

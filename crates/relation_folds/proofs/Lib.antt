@@ -13,3 +13,4 @@ pub mod Entering
 pub mod Fielding
 pub mod FieldFolding
 pub mod ClauseLists
+pub mod Lists

@@ -9,10 +9,11 @@ use Rattle.relation_terms.specs.declared.terms.part_kind.Part.{Part}
 use Rattle.relation_terms.proofs.Members.{known_with_last}
 use Rattle.relation_terms.proofs.Stays.{stays_list, knows_as}
 use Rattle.relation_folds.specs.declared.fold.memory.Memory.{Memory}
-use Rattle.relation_folds.specs.Folds.{folded, folded_parts, inside}
+use Rattle.relation_folds.specs.Folds.{folded, folded_parts}
 use Rattle.relation_folds.specs.Firsts.{AreFirsts}
 use Rattle.relation_folds.specs.Stacks.{StandsUpon}
 pub use Rattle.relation_folds.specs.Firsts.{firsts}
+use Rattle.relation_folds.proofs.Depths.{inside}
 
 pub firsts_all : (t : Tree) → IsList t → firsts (count t) t ≡ t
 firsts_all nil h = refl

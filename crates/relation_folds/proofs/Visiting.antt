@@ -13,8 +13,8 @@ use Rattle.relation_terms.specs.declared.terms.part_kind.Part.TheVariants.{Objec
 use Rattle.relation_folds.specs.declared.visit.Visit.{Visit}
 use Rattle.relation_folds.specs.declared.visit.Visit.TheVariants.{Enter, Skip, Stop}
 use Rattle.relation_folds.specs.Visits.{visited_sort, is_visited, Asks, Flow, Walks, entered, skipped, stopped}
-use Rattle.relation_folds.specs.Visits.{deeper, told_inside}
-use Rattle.relation_folds.proofs.Depths.{visited_told}
+use Rattle.relation_folds.specs.Visits.{deeper}
+use Rattle.relation_folds.proofs.Depths.{visited_told, told_inside}
 use Rattle.relation_folds.specs.Visits.{passed_leaf, passed, in_binder, no_part, last_part, next_part}
 
 -- A visitor is asked about a tree by its sort alone.

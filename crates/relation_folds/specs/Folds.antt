@@ -35,12 +35,7 @@ folded f depth (bind ks t) = bind ks (folded f (suc depth) t)
 folded f depth nil = nil
 folded f depth (cons t ts) = cons (folded f depth t) (folded f depth ts)
 
--- How many binders stand around the parts of a tree: those around the tree, and the tree itself where it is one.
-abbrev pub inside : Tree → ℕ → ℕ
-inside (bind ks t) depth = suc depth
-inside t depth = depth
-
--- The same of a part.
+-- How many binders stand around what is in a part: those around the part, and the part itself where it is one.
 abbrev pub inside_part : {Key Id : Type 0} → Part Key Id → ℕ → ℕ
 inside_part (Binder vs b) depth = suc depth
 inside_part p depth = depth

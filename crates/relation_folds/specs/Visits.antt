@@ -45,11 +45,7 @@ Asks visits false d v t w a = (w ≡ v) × (a ≡ Enter)
 abbrev pub deeper : ℕ → ℕ
 deeper d = cond (nat_lt d 340282366920938463463374607431768211455) (suc d) d
 
--- The depth that it is told at the parts of a tree, and of a part.
-abbrev pub told_inside : Tree → ℕ → ℕ
-told_inside (bind ks t) d = deeper d
-told_inside t d = d
-
+-- The depth that it is told at what is in a part.
 abbrev pub told_inside_part : {Key Id : Type 0} → Part Key Id → ℕ → ℕ
 told_inside_part (Binder vs b) d = deeper d
 told_inside_part p d = d

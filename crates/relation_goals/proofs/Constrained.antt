@@ -4,11 +4,11 @@ use Rattle.relation_terms.specs.Trees.{Tree}
 use Rattle.relation_semantics.specs.Stores.{Store, Constraint, all_bound}
 use Rattle.relation_semantics.specs.Steps.{AddsConstraint, StaysFull}
 use Rattle.relation_semantics.specs.Alphabets.{StaysBuilt}
-use Rattle.relation_semantics.proofs.Building.{built_same, built_constraint}
 use Rattle.relation_semantics.specs.Measures.{Goes}
 use Rattle.relation_semantics.proofs.Going.{goes_nowhere}
 use Rattle.relation_semantics.proofs.Full.{full_same, full_by, constraint_plain}
 use Rattle.relation_semantics.proofs.Growing.{constraint_is_later, constraint_bound, constraint_weight}
+use Rattle.relation_semantics.proofs.BuildingSteps.{built_same, built_constraint}
 use Rattle.relation_semantics.specs.Contexts.{Context}
 use Rattle.relation_semantics.specs.ContextCalls.{Constrains}
 

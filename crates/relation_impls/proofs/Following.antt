@@ -1,5 +1,5 @@
 -- Lists of goals that follow, one by one and all together.
-use Rattle.std.proofs.Common.{◌≡◌, ℕ, List, [], ◌∷◌, ◌++◌, sym, subst, map, All}
+use Rattle.std.proofs.Common.{◌≡◌, ℕ, List, [], ◌∷◌, sym, subst, map, All}
 use Rattle.std.proofs.lemmas.List.Elements.{All-nil, All-cons, All-head, All-tail, All-map}
 use Rattle.relation_terms.specs.declared.terms.keys.ClauseKey.{ClauseKey}
 use Rattle.relation_terms.specs.Trees.{Tree, Assign, apply}
@@ -15,16 +15,6 @@ use Rattle.relation_proving.specs.Telling.{GoesOn, goal_tree}
 use Rattle.relation_proving.proofs.GoingOn.{goal_stays}
 use Rattle.relation_proving.proofs.Candidates.{each_image}
 use Rattle.relation_impls.specs.Telling.{AllFollow}
-
--- What holds of all of two lists holds of all of each.
-pub all_first : {X : Type 0} (P : X → Type 0) (xs ys : List X) → All P (xs ++ ys) → All P xs
-all_first P [] ys h = All-nil P
-all_first P (x ∷ xs) ys h =
-    All-cons P x xs (All-head P x (xs ++ ys) h) (all_first P xs ys (All-tail P x (xs ++ ys) h))
-
-pub all_behind : {X : Type 0} (P : X → Type 0) (xs ys : List X) → All P (xs ++ ys) → All P ys
-all_behind P [] ys h = h
-all_behind P (x ∷ xs) ys h = all_behind P xs ys (All-tail P x (xs ++ ys) h)
 
 module _ (u : ℕ) (rs : List Rule) where
   abbrev FollowsAlone : Tree → Type 0

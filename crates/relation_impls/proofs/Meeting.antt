@@ -29,7 +29,8 @@ use Rattle.relation_impls.specs.declared.answer.WhyApart.TheVariants.{ByForm, By
 use Rattle.relation_impls.specs.declared.answer.Impls.{Impls}
 use Rattle.relation_impls.specs.declared.answer.Impls.TheVariants.{Apart, Meet, Unclear}
 use Rattle.relation_impls.specs.Telling.{AllFollow, TellsBounds, MayMeet, MeetsOpened, TellsOpened}
-use Rattle.relation_impls.proofs.Following.{all_first, all_behind, clauses_follow, follow_as_list, all_follow_on, all_followed}
+use Rattle.relation_impls.proofs.Following.{clauses_follow, follow_as_list, all_follow_on, all_followed}
+use Rattle.relation_folds.proofs.Lists.{All_front, All_back}
 
 module _ {Key Id Name : Type 0} (c d e : Context Key Id Name) (env : ParamEnvKey Key)
     (ks : List (Binder Key (ClausesKey Key))) (left : Binder Key (ClausesKey Key)) (given : ClauseKey Key)
@@ -102,9 +103,9 @@ module _ {Key Id Name : Type 0} (c d e : Context Key Id Name) (env : ParamEnvKey
               left_follows = subst (λ z. Follows u [] rs (all z))
                   (ap (map (apply s)) t.asks_are ∙ opened_values s t.vars xs a.asks o.asks_closed refl)
                   (follow_as_list u rs d s bounds
-                  (all_first (λ g. Follows u [] rs (one (apply s (goal_tree d g)))) bounds asks f));
+                  (All_front (λ g. Follows u [] rs (one (apply s (goal_tree d g)))) bounds asks f));
               right_follows = all_followed u rs c d on s asks asked
-                  (all_behind (λ g. Follows u [] rs (one (apply s (goal_tree d g)))) bounds asks f);
+                  (All_back (λ g. Follows u [] rs (one (apply s (goal_tree d g)))) bounds asks f);
             },
           ),
         )

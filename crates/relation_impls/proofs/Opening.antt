@@ -29,12 +29,7 @@ use Rattle.relation_impls.specs.Overlaps.{GiveOne, MeetBy}
 use Rattle.relation_impls.specs.Answers.{AreExact, TellsApart, TellsMeeting}
 use Rattle.relation_impls.specs.Telling.{FitsBy, MayMeet, MeetsOpened, TellsOpened}
 use Rattle.relation_impls.proofs.Following.{clauses_follow, follow_as_list}
-
-list_first : {X : Type 0} {x y : X} {xs ys : List X} → x ∷ xs ≡ y ∷ ys → x ≡ y
-list_first e = cc
-
-list_others : {X : Type 0} {x y : X} {xs ys : List X} → x ∷ xs ≡ y ∷ ys → xs ≡ ys
-list_others e = cc
+use Rattle.relation_folds.proofs.Lists.{list_first, list_others}
 
 -- What an opened rule asks for may be asked.
 pub others_may : {Key Id Name : Type 0} (c d : Context Key Id Name) (rule : Binder Key (ClausesKey Key))

@@ -1,6 +1,6 @@
 -- An interpretation in which what relating two terms asks of aliases is so: its pairs are all that are met.
 use Rattle.std.proofs.Common.{◌≡◌, ◌⊎◌, ℕ, zero, suc, ◌<◌, refl, sym, ◌∙◌, inl, inr, subst, subst₂, arith, List, [], ◌∷◌, ◌++◌, Some, None, Contains}
-use Rattle.std.proofs.lemmas.List.Elements.{All-contains_itself, Contains-append_left, Contains-append_right}
+use Rattle.std.proofs.lemmas.List.Elements.{Contains-append_left, Contains-append_right}
 use Rattle.term_enums.specs.declared.Variance.{Variance}
 use Rattle.term_enums.specs.declared.Variance.TheVariants.{Covariant, Contravariant, Invariant, Bivariant}
 use Rattle.term_enums.specs.declared.AliasRelationDirection.{AliasRelationDirection}
@@ -14,6 +14,7 @@ use Rattle.relation_semantics.specs.Asking.{Wanted, a_constraint, a_goal, HaveAl
 use Rattle.relation_semantics.proofs.Trees.{apply_ground}
 use Rattle.relation_laws.specs.AskingLaws.{SomeInterpretation}
 use Rattle.std.proofs.lemmas.Option.{same_Some}
+use Rattle.relation_folds.proofs.Lists.{first_in}
 
 -- Two terms are met where two others are related: as these, or as two of their parts at one place.
 data Meets (x y : Tree) : Tree → Tree → Type 0 where
@@ -35,16 +36,13 @@ mutual
   met_in e (cons t ts) (cons u us) = all_met e t u ++ met_in e ts us
   met_in e ts us = []
 
-first_is : {X : Type 0} (x : X) (xs : List X) → Contains (x ∷ xs) x
-first_is x xs = All-contains_itself (x ∷ xs) 0 x (omega arith)
-
 unfold_first : (e a b : Tree) → (xs : List (Tree × Tree × Tree)) × (all_met e a b ≡ (e, a, b) ∷ xs)
 unfolding all_met
 unfold_first e (node h ts) (node k us) = (met_in e ts us, refl)
 unfold_first e a b = ([], refl)
 
 themselves_met : (e a b : Tree) → Contains (all_met e a b) (e, a, b)
-themselves_met e a b = let f = unfold_first e a b in subst (λ xs. Contains xs (e, a, b)) (sym f.1) (first_is (e, a, b) f.0)
+themselves_met e a b = let f = unfold_first e a b in subst (λ xs. Contains xs (e, a, b)) (sym f.1) (first_in (e, a, b) f.0)
 
 part_met : (e : Tree) (q : Tree × Tree × Tree) (i : ℕ) (ts us : Tree) → i < count ts → i < count us →
     Contains (all_met e (nth i ts) (nth i us)) q → Contains (met_in e ts us) q

@@ -29,12 +29,7 @@ use Rattle.relation_proving.specs.Candidates.{candidate_by, TellsCandidate, Tell
 use Rattle.relation_proving.specs.Candidates.{AreVariablesFor, IsFirstOrderClause, MayAsk, MayTry, AsksFor, GivesNone}
 use Rattle.relation_proving.specs.Candidates.{AreFirstOrder, ClausesMeet, ClausesAreApart}
 use Rattle.relation_proving.specs.RuleTerms.{IsRuleOf, OpensRule}
-
-list_first : {X : Type 0} {x y : X} {xs ys : List X} → x ∷ xs ≡ y ∷ ys → x ≡ y
-list_first e = cc
-
-list_others : {X : Type 0} {x y : X} {xs ys : List X} → x ∷ xs ≡ y ∷ ys → xs ≡ ys
-list_others e = cc
+use Rattle.relation_folds.proofs.Lists.{list_first, list_others}
 
 -- What holds of all images holds of the image of each.
 pub each_image : {X : Type 0} (f : X → Tree) (P : Tree → Type 0) (xs : List X) → All P (map f xs) → All (λ x. P (f x)) xs

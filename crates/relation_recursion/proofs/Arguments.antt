@@ -30,7 +30,7 @@ use Rattle.relation_semantics.specs.Lawful.{State, Manners, MayAnswer, Passes, R
 use Rattle.relation_semantics.specs.Lawful.{ExactlyRelated, items_in}
 use Rattle.relation_recursion.proofs.PartSizes.{weight_parts_most}
 use Rattle.relation_semantics.proofs.Registered.{registered_in}
-use Rattle.relation_semantics.proofs.Passing.{passes_within, passes_then, manner_then, stopped}
+use Rattle.relation_semantics.proofs.Passing.{passes_within, passes_then, manner_then}
 use Rattle.relation_semantics.specs.Asking.{HaveAlias}
 use Rattle.relation_semantics.proofs.Asking.{neither_alias}
 use Rattle.relation_semantics.proofs.Recording.{front_ends}
@@ -43,6 +43,7 @@ use Rattle.relation_semantics.proofs.Answering.{same_items, may_itself}
 use Rattle.relation_semantics.proofs.OneUniverse.{keeps_binds, binds_as}
 use Rattle.relation_recursion.proofs.Unifying.{first_order_parts, one_head, answered_as, refused_by}
 use Rattle.relation_semantics.proofs.Erased.{forms_unify_by_parts}
+use Rattle.relation_semantics.proofs.Retelling.{stopped}
 use Rattle.relation_semantics.specs.Headline.{IsFirstOrderPair}
 use Rattle.relation_terms.specs.Heads.{value_type}
 

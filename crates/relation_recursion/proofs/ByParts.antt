@@ -15,10 +15,10 @@ use Rattle.relation_semantics.specs.Errors.{AreOfOneForm, over_parts, over_alias
 use Rattle.relation_semantics.specs.Lawful.{State, Manners, Takes, Turned, Asked}
 use Rattle.relation_semantics.specs.Making.{arg_sort}
 use Rattle.relation_semantics.specs.Parts.{direct_parts, IsRelatedPart, IsComparedPart, IsArgPart, IsBinderPart, ArePaired}
-use Rattle.relation_semantics.specs.Measures.{depth}
 use Rattle.relation_semantics.specs.Stores.{Store, IsTermIn, weight}
 use Rattle.relation_semantics.proofs.OneParts.{parts_counted}
 use Rattle.relation_semantics.proofs.Answering.{same_settings}
+use Rattle.relation_semantics.proofs.Going.{depth}
 use Rattle.part_variances.proofs.Handed.{HaveAsManyInputs}
 use Rattle.part_variances.proofs.Patterns.{IsFormSort}
 pub use Rattle.relation_folds.proofs.Folding.{on_ok}

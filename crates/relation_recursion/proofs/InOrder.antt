@@ -31,7 +31,7 @@ use Rattle.relation_semantics.proofs.RecordingForms.{bare_parts, form_asks, asks
 use Rattle.relation_semantics.specs.Lawful.{RecordsJustAsked, RecordsNoMore, RecordsAs}
 use Rattle.relation_semantics.specs.Lawful.{ExactResult, ExactlyRelated}
 use Rattle.relation_semantics.proofs.Registered.{registered_in}
-use Rattle.relation_semantics.proofs.Passing.{passes_within, passes_then, manner_then, stopped}
+use Rattle.relation_semantics.proofs.Passing.{passes_within, passes_then, manner_then}
 use Rattle.relation_steps.proofs.Fronts.{Fronted, AreParts, fronted_never, fronted_all, fronted_passes, fronted_fault, fronted_needs}
 use Rattle.relation_steps.proofs.Fronts.{fronted_keeps}
 use Rattle.relation_semantics.proofs.Keeping.{one_so_far, unified_inside}
@@ -48,6 +48,7 @@ use Rattle.relation_semantics.proofs.OneParts.{parts_equal}
 use Rattle.relation_recursion.proofs.PartSizes.{weight_parts_most}
 use Rattle.relation_semantics.proofs.Answering.{same_items, may_itself, AnswersParts, may_form}
 use Rattle.relation_semantics.proofs.Lists.{firsts, firsts_all}
+use Rattle.relation_semantics.proofs.Retelling.{stopped}
 use Rattle.part_variances.proofs.Patterns.{term_related}
 use Rattle.relation_recursion.proofs.PartErrors.{term_looked_at, terms_unify, part_error_never, part_error_apart}
 use Rattle.relation_recursion.proofs.PartErrors.{part_error_known}

@@ -23,6 +23,7 @@ use Rattle.relation_recursion.specs.Keeping.{KeepsResult, answer_kept, error_han
 use Rattle.relation_recursion.proofs.InOrder.{part_pushed}
 use Rattle.relation_recursion.proofs.MadeAnew.{fit_pushed}
 use Rattle.relation_folds.proofs.ClauseLists.{firsts_list}
+use Rattle.relation_folds.proofs.Lists.{no_member}
 use Rattle.relation_semantics.proofs.GeneralisingParts.{count_firsts}
 
 -- A list that is not empty has a member.
@@ -33,12 +34,8 @@ some_counted n (x ∷ xs) e d = omega arith
 pub some_kept : {K Z : Type 0} (v : Vec K Z) → false ≡ (vec_len v == 0) → 0 < length v.items
 some_kept v e = some_counted (vec_len v) v.items v.ok.0 (eqb-false (vec_len v) 0 (sym e))
 
-none_counted : {K : Type 0} (xs : List K) → length xs ≡ 0 → xs ≡ []
-none_counted [] e = refl
-none_counted (x ∷ xs) e = absurd (omega (arith, e))
-
 pub none_in : {K Z : Type 0} (v : Vec K Z) → true ≡ (vec_len v == 0) → v.items ≡ []
-none_in v e = none_counted v.items (sym v.ok.0 ∙ eqb-true (vec_len v) 0 (sym e))
+none_in v e = no_member v.items (sym v.ok.0 ∙ eqb-true (vec_len v) 0 (sym e))
 
 pub none_kept_yet : {K : Type 0} {xs : List K} → xs ≡ [] → 0 < length xs → ⊥
 none_kept_yet e l = let n = ap length e in omega (arith, n, l)

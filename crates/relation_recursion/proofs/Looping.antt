@@ -8,13 +8,12 @@ use Rattle.relation_terms.specs.declared.terms.generic_arg.GenericArgKind.{Gener
 use Rattle.relation_folds.specs.declared.error.RelateFault.{RelateFault}
 use Rattle.relation_semantics.specs.Relation.{Items, part_at, IsAlias}
 use Rattle.relation_semantics.specs.Stores.{IsTermIn, weight}
-use Rattle.relation_semantics.specs.Measures.{depth}
 use Rattle.relation_semantics.specs.Goals.{Goal}
 use Rattle.relation_semantics.specs.Errors.{AreOfOneForm, over_parts, over_aliases, one_leaf, parameters, AreOfOneConst, values, expressions, over_arguments, const_parameters, one_const_leaf}
 use Rattle.relation_semantics.specs.Parts.{direct_parts, const_parts_of, head_of, const_head_of, IsByParts}
 use Rattle.part_variances.specs.Handing.{IsFaultOfTy, IsFaultOfConst, IsFaultOfPart, IsResultOfTy, IsResultOfConst, IsResultOfPart}
 use Rattle.relation_semantics.specs.Lawful.{State, Manner, Manners, TakesParts, Takes, Asked, LeadsToParts, LeadsAgain, items_in}
-use Rattle.relation_semantics.proofs.Going.{depth-mono, depth-strict, depth-spent, depth_later}
+use Rattle.relation_semantics.proofs.Going.{depth-mono, depth-strict, depth-spent, depth_later, depth}
 use Rattle.relation_semantics.proofs.Standing.{later_term}
 use Rattle.relation_semantics.proofs.Parts.{in_part, in_const_part}
 use Rattle.relation_semantics.proofs.Bound.{part_by_lists, const_part_by_lists}

@@ -19,7 +19,7 @@ use Rattle.relation_semantics.specs.Relation.{Items, at, second_opened, first_op
 use Rattle.relation_semantics.specs.Stores.{Store, IsSound, InContext, weight}
 use Rattle.relation_semantics.specs.Goals.{Goal}
 use Rattle.relation_semantics.specs.Outcomes.{Outcome, NeverOne, KeepsOne}
-use Rattle.relation_semantics.specs.Measures.{grown, depth, Goes}
+use Rattle.relation_semantics.specs.Measures.{grown, Goes}
 use Rattle.relation_semantics.specs.Steps.{HasNoBinder}
 use Rattle.relation_semantics.specs.Alphabets.{Alphabet, IsBuiltOf, StaysBuilt, MayBind}
 use Rattle.relation_semantics.specs.Errors.{ErrorOf}
@@ -29,15 +29,17 @@ use Rattle.relation_steps.specs.Rounds.{OneRound, StepsToBodies, RoundSteps, one
 use Rattle.relation_steps.specs.Rounds.{RoundLeads, Opened}
 use Rattle.relation_semantics.proofs.Standing.{term_context}
 use Rattle.relation_semantics.proofs.Going.{grown-mono, le_grown, depth-strict, depth_later, le_square, weight_cons}
+use Rattle.relation_semantics.proofs.Going.{depth}
 use Rattle.relation_semantics.proofs.Full.{first_order_plain, full_never}
-use Rattle.relation_semantics.proofs.Building.{built_led, built_then, needs_led}
 use Rattle.relation_semantics.proofs.Answering.{may_itself}
 use Rattle.relation_semantics.proofs.Beginning.{begins_on, agrees_then}
 use Rattle.relation_semantics.proofs.Composing.{steps_compose, values_still, agree_through}
 use Rattle.relation_semantics.proofs.Keeping.{one_inside, one_led, one_of_all, one_outcome, one_then_all}
 use Rattle.relation_semantics.proofs.AskingSince.{built_unbound_term}
 use Rattle.relation_semantics.proofs.Opening.{two_rounds_relate}
-use Rattle.relation_semantics.proofs.Passing.{passes_then, manner_then, stopped, asked_later, outcome_seen}
+use Rattle.relation_semantics.proofs.Passing.{passes_then, manner_then, asked_later, outcome_seen}
+use Rattle.relation_semantics.proofs.Retelling.{stopped}
+use Rattle.relation_semantics.proofs.BuildingSteps.{built_led, built_then, needs_led}
 use Rattle.relation_terms.proofs.Paths.{kinds_path, bind_path}
 use Rattle.relation_semantics.specs.Binders.{bound_by}
 

@@ -38,9 +38,9 @@ use Rattle.relation_semantics.proofs.Asking.{itself_is_trivial}
 use Rattle.relation_semantics.proofs.Recording.{stands_itself, records_trivial, records_as}
 use Rattle.relation_semantics.proofs.RecordingForms.{bare_const_parts, const_asks, asks_const}
 use Rattle.relation_semantics.proofs.Registered.{registered_in}
-use Rattle.relation_semantics.proofs.Passing.{passes_within, passes_then, passes_nowhere, manner_then, stopped}
+use Rattle.relation_semantics.proofs.Passing.{passes_within, passes_then, passes_nowhere, manner_then}
 use Rattle.relation_steps.proofs.Fronts.{Fronted, AreParts, fronted_never, fronted_all, fronted_passes, fronted_fault, fronted_exactly, fronted_full, fronted_built, fronted_needs}
-use Rattle.relation_semantics.proofs.Building.{built_itself, built_const_parts}
+use Rattle.relation_semantics.proofs.Building.{built_const_parts}
 use Rattle.relation_steps.proofs.Fronts.{fronted_agree, fronted_keeps}
 use Rattle.relation_semantics.proofs.Keeping.{one_so_far, unified_inside}
 use Rattle.relation_semantics.proofs.AskingSince.{const_no_more, no_more_same}
@@ -58,6 +58,8 @@ use Rattle.relation_recursion.proofs.PartSizes.{weight_const_parts_most}
 use Rattle.relation_semantics.proofs.Answering.{same_items, may_itself, covariantly}
 use Rattle.relation_semantics.proofs.AliasOutcomes.{error_stays}
 use Rattle.relation_semantics.proofs.Erased.{error_not_first}
+use Rattle.relation_semantics.proofs.Retelling.{stopped}
+use Rattle.relation_semantics.proofs.BuildingSteps.{built_itself}
 use Rattle.relation_steps.proofs.Errors.{error_agreed}
 
 -- The error of two parts of two constants as the error of the constants.

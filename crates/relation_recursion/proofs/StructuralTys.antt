@@ -29,7 +29,7 @@ use Rattle.relation_semantics.specs.Lawful.{RelatedForms, ExactResult, ExactlyRe
 use Rattle.relation_semantics.proofs.Registered.{registered_in}
 use Rattle.relation_semantics.proofs.Recording.{records_as}
 use Rattle.relation_semantics.proofs.RecordingForms.{bare_parts, form_asks, asks_form}
-use Rattle.relation_semantics.proofs.Passing.{passes_within, passes_then, manner_then, stopped}
+use Rattle.relation_semantics.proofs.Passing.{passes_within, passes_then, manner_then}
 use Rattle.relation_steps.proofs.Fronts.{Fronted, AreParts, fronted_never, fronted_all, fronted_passes, fronted_fault, fronted_exactly, fronted_full, fronted_built, fronted_needs}
 use Rattle.relation_semantics.proofs.Building.{built_parts}
 use Rattle.relation_steps.proofs.Fronts.{fronted_agree, fronted_keeps}
@@ -46,6 +46,7 @@ use Rattle.part_variances.proofs.Handed.{ty_fault_known}
 use Rattle.relation_recursion.proofs.PartSizes.{weight_parts_most}
 use Rattle.relation_semantics.proofs.Answering.{same_items, may_itself}
 use Rattle.relation_semantics.proofs.Erased.{alias_not_first}
+use Rattle.relation_semantics.proofs.Retelling.{stopped}
 
 -- The error of two parts of two types as the error of the types.
 module _ {Key Id Name : Type 0} (n p : Meaning Key Id Name) (e : Extends n p) (s : Sorted n) (a b : Tree)

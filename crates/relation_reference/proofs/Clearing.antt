@@ -21,9 +21,9 @@ use Rattle.term_enums.specs.declared.StructurallyRelateAliases.TheVariants.{Yes,
 use Rattle.relation_semantics.specs.Stores.{Store}
 use Rattle.relation_semantics.specs.Generalising.{Stays, gives_way_to, Side, inside, outside, cycle, beyond, IsNoObstacle, IsSeen, StopsAt, at_itself, at_placeholder}
 use Rattle.relation_semantics.proofs.Lists.{firsts, firsts_all}
+use Rattle.relation_semantics.proofs.GeneralisedLeaves.{clear_gives}
 use Rattle.relation_reference.specs.Generalises.{IsClearFor, HasObstacle, TellsClear, IsLeftAlias, IsSeenTree, MayGoInto, AliasGivesWay, TellsGivesWay, WasClear, AreClear, IsClearInside, parts_side}
 use Rattle.relation_reference.proofs.Generalising.{clear_all, stops_whole}
-use Rattle.relation_semantics.proofs.BindingGeneralised.{clear_gives}
 
 -- Types are looked for by their keys.
 abbrev pub ty_eq : {Key : Type 0} → (Key → Key → Bool) → TyKey Key → TyKey Key → Bool

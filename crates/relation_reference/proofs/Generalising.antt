@@ -38,8 +38,8 @@ use Rattle.relation_reference.specs.Generalises.{side_of, parts_side, met_at, Is
 use Rattle.occurs_check.specs.Fates.{IsFate}
 use Rattle.relation_reference.proofs.Resolving.{context_part}
 use Rattle.relation_reference.proofs.Recalling.{sure_grows, keeps_none, keeps_grows}
-use Rattle.relation_semantics.proofs.BindingGeneralised.{clear_stays, clear_gives}
 use Rattle.relation_semantics.proofs.Answering.{items_stay}
+use Rattle.relation_semantics.proofs.GeneralisedLeaves.{clear_stays, clear_gives}
 
 -- A leaf that is in the context from the start stays by what is recorded at the start.
 module _ (start st : Store) (u : ℕ) (v : Variance) (still : (j : VarKind) (m : ℕ) → IsMade start j m → universe_of st j m ≡ universe_of start j m) where

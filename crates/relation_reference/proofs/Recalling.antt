@@ -19,14 +19,12 @@ use Rattle.relation_reference.specs.declared.context.generalising.MetKey.{MetKey
 use Rattle.relation_reference.specs.Generalises.{side_of, met_at, IsSure, WasMet, IsFound, Keeps}
 use Rattle.relation_terms.proofs.Same.{bool_same, bool_self}
 use Rattle.std.specs.Cmp.Derive.{both_true}
+use Rattle.relation_folds.proofs.Lists.{first_in}
 
 -- What a list with one more in front contains.
 pub contains_cases : {A : Type 0} (y x : A) (ys : List A) → Contains (y ∷ ys) x → (y ≡ x) ⊎ Contains ys x
 contains_cases y x ys (zero, h, e) = inl e
 contains_cases y x ys (suc i, h, e) = inr (i, omega (arith, h), e)
-
-pub contains_first : {A : Type 0} (x : A) (xs : List A) → Contains (x ∷ xs) x
-contains_first x xs = (0, omega arith, refl)
 
 pub contains_later : {A : Type 0} (y x : A) (xs : List A) → Contains xs x → Contains (y ∷ xs) x
 contains_later y x xs h = let l = h.1 in (suc h.0, omega (arith, l), h.2)
@@ -178,7 +176,7 @@ module _ {Key Id Name S : Type 0} (m : Meaning Key Id Name) (eq : MetKey Key →
     pub keeps_more : (es : List Met) → Keeps eq m memory es → ((x : Tree) → Contains es (here x) → ⊥) → Keeps eq m new (here (m.ty became) ∷ es)
     keeps_more es k new_one = record {
       found = λ p x e. one_more (eq q p) x (get eq memory p) (WasMet eq m new (here (m.ty became) ∷ es) p)
-          (λ h. record { key = q; same = h; there = there; met = contains_first _ es })
+          (λ h. record { key = q; same = h; there = there; met = first_in _ es })
           (λ y h. let f = k.found p y h in record { key = f.key; same = f.same; there = f.there; met = contains_later _ _ es f.met })
           (sym (updates p) ∙ e);
       kept = λ d h. go d (contains_cases _ d es h);

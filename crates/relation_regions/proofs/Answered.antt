@@ -23,7 +23,7 @@ use Rattle.relation_regions.specs.Demands as demand
 use Rattle.std.specs.Global.{Vec}
 use Rattle.relation_regions.specs.Worlds.{static}
 use Rattle.relation_regions.specs.Numbering.{AreBelow}
-use Rattle.relation_regions.specs.Reading.{numbered, trees_of, AreNumbered, IsProblem}
+use Rattle.relation_regions.specs.Reading.{numbered, trees_of, AreNumbered}
 use Rattle.relation_regions.specs.Numbered.{AreWithin, IsAnswer}
 use Rattle.relation_regions.specs.Solutions.{AreLeast, IsUnmetBy}
 use Rattle.relation_regions.specs.Solving.{IsFactIn, region_pair, region_pairs, IfMet, IfValued, IfUnmet, IsAnswered}
@@ -31,6 +31,7 @@ use Rattle.relation_regions.proofs.Decided.{has_solution, are_least, is_unmet}
 use Rattle.relation_regions.proofs.InWorlds.{SpeaksOfGiven}
 use Rattle.relation_regions.proofs.RegionNumbers.{region_known}
 use Rattle.relation_regions.proofs.Numbers.{standings_each, asked_pairs, known_pairs}
+use Rattle.relation_regions.proofs.Problem.{IsProblem}
 
 -- The region 'static is every context's.
 pub static_in : (st : Store) (t : Tree) → t ≡ static → IsRegionIn st t

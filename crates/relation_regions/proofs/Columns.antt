@@ -12,6 +12,13 @@ use Rattle.relation_regions.specs.Graphs.{IsLatest, AreColumns}
 pub length_more : {A : Type 0} (xs : List A) (x : A) → length (xs ++ x ∷ []) ≡ length xs + 1
 length_more {A = A} xs x = omega (arith, length-append {A = A} xs (x ∷ []))
 
+-- A column with one more number.
+pub column_kept : (old new : List ℕ) (x i : ℕ) → new ≡ old ++ x ∷ [] → i < length old → get_or new i 0 ≡ get_or old i 0
+column_kept old new x i is lt = ap (λ l. get_or l i 0) is ∙ get_or_append_left old (x ∷ []) 0 i lt
+
+pub column_last : (old new : List ℕ) (x i : ℕ) → new ≡ old ++ x ∷ [] → length old ≡ i → get_or new i 0 ≡ x
+column_last old new x i is e = ap (λ l. get_or l i 0) is ∙ get_or_push old x 0 i e
+
 -- All numbers of a list are below a bound, and so is one more.
 pub all_below_more : (xs : List ℕ) (x n : ℕ) → ((i : ℕ) → i < length xs → get_or xs i 0 < n) → x < n →
     (i : ℕ) → i < length (xs ++ x ∷ []) → get_or (xs ++ x ∷ []) i 0 < n

@@ -3,20 +3,12 @@ use borrow.Author.Count.{below_more}
 use Rattle.std.proofs.Common.{◌≡◌, ℕ, ◌<◌, ◌≤◌, ◌+◌, ◌-◌, List, [], ◌∷◌, ◌++◌, length, get_or, ◌∙◌, ap, refl, sym, subst, arith}
 use Rattle.std.proofs.Common.{inl, inr, Result, Ok, Err, IfOk}
 use Rattle.std.proofs.lemmas.Bool.{cases_lt}
-use Rattle.std.proofs.lemmas.List.{get_or_append_left, get_or_push}
 use Rattle.relation_regions.specs.declared.graph.Graph.{Graph}
 use Rattle.relation_regions.specs.declared.building.Pairs.{Pairs}
 use Rattle.relation_regions.specs.Graphs.{IsGraph, HasSameEdges}
 use Rattle.relation_regions.specs.Building.{ArePairs, Extends, HasPairs, HasStatic, AddsPairs, AddsStatic, IsBuilt}
 use Rattle.relation_regions.specs.Building.{IsBuiltAlone}
-use Rattle.relation_regions.proofs.Columns.{length_more}
-
--- A column with one more number.
-column_kept : (old new : List ℕ) (x i : ℕ) → new ≡ old ++ x ∷ [] → i < length old → get_or new i 0 ≡ get_or old i 0
-column_kept old new x i is lt = ap (λ l. get_or l i 0) is ∙ get_or_append_left old (x ∷ []) 0 i lt
-
-column_last : (old new : List ℕ) (x i : ℕ) → new ≡ old ++ x ∷ [] → length old ≡ i → get_or new i 0 ≡ x
-column_last old new x i is e = ap (λ l. get_or l i 0) is ∙ get_or_push old x 0 i e
+use Rattle.relation_regions.proofs.Columns.{length_more, column_kept, column_last}
 
 -- None was added yet.
 extends_itself : (g : Graph) → IsGraph g → Extends g 0 g

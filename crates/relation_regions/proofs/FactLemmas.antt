@@ -7,12 +7,13 @@ use Rattle.relation_terms.specs.Heads.{region_sort, region_var, variable, bound,
 use Rattle.relation_terms.specs.Heads.{Atom, fresh_type, fresh_int, fresh_float, fresh_const}
 use Rattle.relation_terms.specs.Trees.{Tree, leaf, node, bind, nil, cons, IsTerm, known}
 use Rattle.relation_terms.specs.Interning.{Sorted}
+use Rattle.relation_terms.proofs.Members.{no_region}
 use Rattle.relation_semantics.specs.Relation.{IsValueAtom}
 use Rattle.relation_semantics.specs.Stores.{Store, IsRegionIn, IsTermIn, InContext}
 use Rattle.relation_semantics.specs.Contexts.{Context}
 use Rattle.relation_semantics.specs.ContextCalls.{IsNotVariable}
 use Rattle.relation_regions.specs.Solving.{IsFactIn, cannot_be_given}
-use Rattle.relation_regions.proofs.Forms.{no_head, region_kind_is}
+use Rattle.relation_regions.proofs.Forms.{region_kind_is}
 
 -- No region stands for a variable.
 value_atom : (x : Atom) → IsTerm region_sort (leaf (atom x)) → IsValueAtom x
@@ -34,7 +35,7 @@ given_in st (leaf (placeholder k u i)) h e = elim (cases_lt st.universe u) [
 ]
 given_in st (leaf (atom x)) h e = ((h, (value_atom x h, tt, tt)), λ n f. cc)
 given_in st (leaf unknown) h e = absurd cc
-given_in st (node k ts) h e = absurd (no_head k h.0)
+given_in st (node k ts) h e = absurd (no_region k h.0)
 given_in st (bind ks t) h e = absurd h
 given_in st nil h e = absurd h
 given_in st (cons t ts) h e = absurd h
@@ -50,16 +51,12 @@ other_in st (leaf (placeholder k u n)) e h f =
     absurd (omega (arith, lt, le))
 other_in st (leaf (atom x)) e h f = absurd cc
 other_in st (leaf unknown) e h f = absurd (h.1).0
-other_in st (node k ts) e h f = absurd (no_head k (h.0).0)
+other_in st (node k ts) e h f = absurd (no_region k (h.0).0)
 other_in st (bind ks t) e h f = absurd h.0
 other_in st nil e h f = absurd h.0
 other_in st (cons t ts) e h f = absurd h.0
 
--- What is not so, and what is.
-pub not_so : (b : Bool) → IsTrue (not b) → b ≡ false
-not_so true h = absurd cc
-not_so false h = refl
-
+-- What is so.
 pub so : (b : Bool) → IsFalse (not b) → b ≡ true
 so true h = refl
 so false h = absurd cc

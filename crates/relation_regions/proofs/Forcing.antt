@@ -146,7 +146,7 @@ module _ (g w : Graph) (asked : ℕ) (standings : List Standing) where
             (p.0 ++ q.0, joined w.from.items w.to.items p.0 q.0 a m b p.1 q.1)
 
 -- What can't name a placeholder is a node.
-none_names_less : (s : Standing) → is_beyond Named s ≡ true → ⊥
+pub none_names_less : (s : Standing) → is_beyond Named s ≡ true → ⊥
 none_names_less Named h = absurd cc
 none_names_less (Placeholder u) h = absurd cc
 none_names_less (Variable u) h = absurd cc

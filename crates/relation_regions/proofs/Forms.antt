@@ -2,8 +2,9 @@
 use Rattle.std.proofs.Common.{◌≡◌, ℕ, ◌<◌, ap, refl, subst, ◌⊎◌, inl, inr, true, false, arith}
 use Rattle.std.proofs.lemmas.Bool.{cases_lt, lt-ltb, ltb-true}
 use Rattle.relation_terms.specs.Heads.{region_sort, VarKind, type_var, int_var, float_var, const_var, region_var}
-use Rattle.relation_terms.specs.Heads.{Head, adt, Admits, head_sort, variable, bound, placeholder, atom, unknown}
+use Rattle.relation_terms.specs.Heads.{variable, bound, placeholder, atom, unknown}
 use Rattle.relation_terms.specs.Trees.{Tree, leaf, node, bind, nil, cons, Assign, apply, IsTerm, Leaves}
+use Rattle.relation_terms.proofs.Members.{no_region}
 use Rattle.relation_semantics.specs.Stores.{Store, IsRegionIn, IsMade, IsNamable, universe_of, IsTermIn, InContext}
 use Rattle.relation_semantics.specs.ContextCalls.{IsNotVariable}
 use Rattle.relation_regions.specs.declared.standing.Standing.{Standing}
@@ -11,11 +12,7 @@ use Rattle.relation_regions.specs.declared.standing.Standing.TheVariants.{Named,
 use Rattle.relation_regions.specs.Standings.{is_given, is_beyond}
 use Rattle.relation_regions.specs.Worlds.{CannotName}
 use Rattle.relation_regions.specs.Reading.{standing_in}
-
--- No form over parts is a region.
-pub no_head : (h : Head) → Admits region_sort (head_sort h) → ⊥
-no_head (adt d) a = a
-no_head h a = a
+use Rattle.relation_regions.proofs.Forcing.{none_names_less}
 
 -- A variable of a region is a region variable.
 pub region_kind_is : (k : VarKind) (n : ℕ) → IsTerm region_sort (leaf (variable k n)) → k ≡ region_var
@@ -33,7 +30,7 @@ variable_or_not (leaf (bound k d i)) h = inl (λ n e. cc)
 variable_or_not (leaf (placeholder k u i)) h = inl (λ n e. cc)
 variable_or_not (leaf (atom x)) h = inl (λ n e. cc)
 variable_or_not (leaf unknown) h = inl (λ n e. cc)
-variable_or_not (node k ts) h = absurd (no_head k h.0)
+variable_or_not (node k ts) h = absurd (no_region k h.0)
 variable_or_not (bind ks t) h = absurd h
 variable_or_not nil h = absurd h
 variable_or_not (cons t ts) h = absurd h
@@ -45,7 +42,7 @@ own_value s (leaf (bound k d i)) h f = refl
 own_value s (leaf (placeholder k u n)) h f = refl
 own_value s (leaf (atom x)) h f = refl
 own_value s (leaf unknown) h f = refl
-own_value s (node k ts) h f = absurd (no_head k h.0)
+own_value s (node k ts) h f = absurd (no_region k h.0)
 own_value s (bind ks t) h f = absurd h
 own_value s nil h f = absurd h
 own_value s (cons t ts) h f = absurd h
@@ -106,17 +103,12 @@ unnamable_beyond st u (leaf (placeholder k v n)) h f = elim (cases_lt u v) [
 ]
 unnamable_beyond st u (leaf (atom x)) h f = absurd (f tt)
 unnamable_beyond st u (leaf unknown) h f = absurd (h.1).0
-unnamable_beyond st u (node k ts) h f = absurd (no_head k (h.0).0)
+unnamable_beyond st u (node k ts) h f = absurd (no_region k (h.0).0)
 unnamable_beyond st u (bind ks t) h f = absurd h.0
 unnamable_beyond st u nil h f = absurd h.0
 unnamable_beyond st u (cons t ts) h f = absurd h.0
 
 -- No named region and no placeholder is a variable.
-named_names_all : (s : Standing) → is_beyond Named s ≡ true → ⊥
-named_names_all Named h = absurd cc
-named_names_all (Placeholder u) h = absurd cc
-named_names_all (Variable u) h = absurd cc
-
 placeholder_names_all : (v : ℕ) (s : Standing) → is_beyond (Placeholder v) s ≡ true → ⊥
 placeholder_names_all v Named h = absurd cc
 placeholder_names_all v (Placeholder u) h = absurd cc
@@ -135,11 +127,11 @@ beyond_unnamed st (leaf (variable k n)) p h e = record {
   is = ap (λ j. leaf (variable j n)) (region_kind_is k n h);
   cannot_name = beyond_unnamable st (universe_of st region_var n) p e;
 }
-beyond_unnamed st (leaf (bound k d i)) p h e = absurd (named_names_all (standing_in st p) e)
+beyond_unnamed st (leaf (bound k d i)) p h e = absurd (none_names_less (standing_in st p) e)
 beyond_unnamed st (leaf (placeholder k v n)) p h e = absurd (placeholder_names_all v (standing_in st p) e)
-beyond_unnamed st (leaf (atom x)) p h e = absurd (named_names_all (standing_in st p) e)
-beyond_unnamed st (leaf unknown) p h e = absurd (named_names_all (standing_in st p) e)
-beyond_unnamed st (node k ts) p h e = absurd (named_names_all (standing_in st p) e)
-beyond_unnamed st (bind ks t) p h e = absurd (named_names_all (standing_in st p) e)
-beyond_unnamed st nil p h e = absurd (named_names_all (standing_in st p) e)
-beyond_unnamed st (cons t ts) p h e = absurd (named_names_all (standing_in st p) e)
+beyond_unnamed st (leaf (atom x)) p h e = absurd (none_names_less (standing_in st p) e)
+beyond_unnamed st (leaf unknown) p h e = absurd (none_names_less (standing_in st p) e)
+beyond_unnamed st (node k ts) p h e = absurd (none_names_less (standing_in st p) e)
+beyond_unnamed st (bind ks t) p h e = absurd (none_names_less (standing_in st p) e)
+beyond_unnamed st nil p h e = absurd (none_names_less (standing_in st p) e)
+beyond_unnamed st (cons t ts) p h e = absurd (none_names_less (standing_in st p) e)

@@ -18,6 +18,7 @@ pub mod FreeRegions
 pub mod Generated
 pub mod InWorlds
 pub mod RegionNumbers
+pub mod Problem
 pub mod Numbers
 pub mod ReadPairs
 pub mod Sorts

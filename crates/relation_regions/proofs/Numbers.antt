@@ -12,7 +12,8 @@ use Rattle.relation_regions.specs.Demands.{IsKnown, is_stated, static_first, is_
 use Rattle.relation_regions.specs.Standings.{standing_of}
 use Rattle.relation_regions.specs.Worlds.{static, IsOf, IsMentioned, is_static, by_constraint, by_fact, FactsSay, stated}
 use Rattle.relation_regions.specs.Worlds.{from_static, itself, through}
-use Rattle.relation_regions.specs.Reading.{standing_in, numbered, IsPair, no_constraint, Asks, stating, IsPairAt, HaveRead, IsProblem}
+use Rattle.relation_regions.specs.Reading.{standing_in, numbered, IsPair, no_constraint, Asks, stating, IsPairAt, HaveRead}
+use Rattle.relation_regions.proofs.Problem.{IsProblem}
 
 -- What is read is pairs of numbers that there are.
 pub read_pairs : (qs : List Constraint) (bound : ℕ) (trees : List Tree) (p : Pairs) (said : List ℕ) →

@@ -3,24 +3,18 @@ use borrow.Author.Count.{below_more}
 use Rattle.std.proofs.Common.{◌≡◌, ℕ, ◌<◌, ◌+◌, List, [], ◌∷◌, ◌++◌, length, get_or, sym, ◌∙◌, ap, refl, subst, arith}
 use Rattle.std.proofs.Common.{inl, inr, map}
 use Rattle.std.specs.List.{Contains}
-use Rattle.std.proofs.lemmas.List.{get_or_append_left, get_or_push, get_or_default, length-map}
+use Rattle.std.proofs.lemmas.List.{get_or_append_left, get_or_default, length-map}
 use Rattle.std.proofs.lemmas.List.Elements.{Contains-append_cases}
 use Rattle.relation_terms.specs.Trees.{Tree}
 use Rattle.relation_semantics.specs.Stores.{Store, Constraint, outlives_constraint, equal_constraint}
 use Rattle.relation_regions.specs.declared.building.Pairs.{Pairs}
 use Rattle.relation_regions.specs.declared.standing.Standing.{Standing}
-use Rattle.relation_regions.proofs.Columns.{length_more}
+use Rattle.relation_regions.proofs.Columns.{length_more, column_kept, column_last}
 use Rattle.relation_regions.specs.Worlds.{static, IsOf, IsMentioned, is_static, by_constraint, by_fact}
 use Rattle.relation_regions.specs.Reading.{numbered, IsAt, AreNumbered, GrowsBy, IsOfOne, IsPair, no_constraint, Asks, stating}
-use Rattle.relation_regions.specs.Reading.{AddsPair, AddsAsked, AreNone, IsPairAt, IsAsked, HaveRead, IsProblem}
+use Rattle.relation_regions.specs.Reading.{AddsPair, AddsAsked, AreNone, IsPairAt, IsAsked, HaveRead}
 use Rattle.relation_regions.proofs.Generated.{from_map}
-
--- A column with one more number.
-at_earlier : (old new : List ℕ) (x i : ℕ) → new ≡ old ++ x ∷ [] → i < length old → get_or new i 0 ≡ get_or old i 0
-at_earlier old new x i is lt = ap (λ l. get_or l i 0) is ∙ get_or_append_left old (x ∷ []) 0 i lt
-
-at_last : (old new : List ℕ) (x i : ℕ) → new ≡ old ++ x ∷ [] → length old ≡ i → get_or new i 0 ≡ x
-at_last old new x i is e = ap (λ l. get_or l i 0) is ∙ get_or_push old x 0 i e
+use Rattle.relation_regions.proofs.Problem.{IsProblem}
 
 one_longer : (old new : List ℕ) (x : ℕ) → new ≡ old ++ x ∷ [] → length new ≡ length old + 1
 one_longer old new x is = ap (λ (l : List ℕ). length l) is ∙ length_more old x
@@ -121,9 +115,9 @@ module _ (qs : List Constraint) where
     earlier_there : (k : ℕ) (x y : Tree) → IsPairAt trees p k x y → IsPairAt trees q k x y
     earlier_there k x y e = record {
       below = omega (arith, e.below, one_more);
-      longer_at = subst (λ i. IsAt trees i x) (sym (at_earlier p.longer.items q.longer.items adds.first k
+      longer_at = subst (λ i. IsAt trees i x) (sym (column_kept p.longer.items q.longer.items adds.first k
           (adds.puts).longer_is (omega (arith, e.below, h.each_longer)))) e.longer_at;
-      shorter_at = subst (λ i. IsAt trees i y) (sym (at_earlier p.shorter.items q.shorter.items adds.second k
+      shorter_at = subst (λ i. IsAt trees i y) (sym (column_kept p.shorter.items q.shorter.items adds.second k
           (adds.puts).shorter_is e.below)) e.shorter_at;
     }
 
@@ -131,9 +125,9 @@ module _ (qs : List Constraint) where
     last_there : IsPairAt trees q (length p.shorter.items) a b
     last_there = record {
       below = omega (arith, one_more);
-      longer_at = subst (λ i. IsAt trees i a) (sym (at_last p.longer.items q.longer.items adds.first
+      longer_at = subst (λ i. IsAt trees i a) (sym (column_last p.longer.items q.longer.items adds.first
           (length p.shorter.items) (adds.puts).longer_is h.each_longer)) adds.first_at;
-      shorter_at = subst (λ i. IsAt trees i b) (sym (at_last p.shorter.items q.shorter.items adds.second
+      shorter_at = subst (λ i. IsAt trees i b) (sym (column_last p.shorter.items q.shorter.items adds.second
           (length p.shorter.items) (adds.puts).shorter_is refl)) adds.second_at;
     }
 
@@ -142,7 +136,7 @@ module _ (qs : List Constraint) where
       longer = a;
       shorter = b;
       pair = last_there;
-      asks = subst (λ i. Asks qs i a b) (sym (at_last said said' j (length p.shorter.items) (adds.puts).said_is h.each_said))
+      asks = subst (λ i. Asks qs i a b) (sym (column_last said said' j (length p.shorter.items) (adds.puts).said_is h.each_said))
           asks;
     }
 
@@ -152,7 +146,7 @@ module _ (qs : List Constraint) where
       shorter = s.shorter;
       pair = earlier_there k s.longer s.shorter s.pair;
       asks = subst (λ i. Asks qs i s.longer s.shorter)
-          (sym (at_earlier said said' j k (adds.puts).said_is (omega (arith, lt, h.each_said)))) s.asks;
+          (sym (column_kept said said' j k (adds.puts).said_is (omega (arith, lt, h.each_said)))) s.asks;
     }
 
     -- One more pair of what is asked for.

@@ -13,10 +13,14 @@ use Rattle.relation_regions.specs.declared.standing.Standing.TheVariants.{Named,
 use Rattle.relation_regions.specs.Graphs.{IsGraph, Reaches, HasSameEdges}
 use Rattle.relation_regions.specs.Searches.{IsSearch, IsFound, FindsAll}
 use Rattle.relation_regions.specs.Standings.{is_beyond, is_placeholder, standing_of, IsBeyond}
-use Rattle.relation_regions.specs.Widening.{AreReasons, HaveReasons, IsNoted, IsWidened}
+use Rattle.relation_regions.specs.Widening.{AreReasons, HaveReasons, IsWidened}
 use Rattle.relation_regions.proofs.Columns.{length_more}
 use Rattle.relation_regions.proofs.Found.{placed_kept}
 use Rattle.relation_regions.proofs.Paths.{found_reaches}
+
+-- No answer is both.
+pub both_ways : {b : Bool} → b ≡ true → b ≡ false → ⊥
+both_ways p q = absurd cc
 
 -- Whether something stands at a place, as it is read there.
 pub some_as_read : (xs : List (Option ℕ)) (x : ℕ) (r : Option ℕ) (b : Bool) → x < length xs → r ≡ get_or xs x r →
@@ -94,6 +98,13 @@ reasons_more g standings reasons node target h lt in_graph beyond reaches =
       beyond = λ a p e. (all a p e).1;
       reaches = λ a p e. (all a p e).2;
     }
+
+-- Variables have their reasons while a target is looked at, of the nodes below one.
+pub record IsNoted (g : Graph) (standings : List Standing) (found : Search) (target node : ℕ)
+    (reasons : List (Option ℕ)) : Type 0 where
+  pub are : AreReasons g standings reasons
+  pub earlier : HaveReasons g standings target reasons
+  pub looked_at : (a : ℕ) → a < node → IsFound found a → IsBeyond standings a target → IsSome (get_or reasons a None)
 
 -- A node that was found and can't name the target is noted.
 pub noted_yes : (g : Graph) (standings : List Standing) (found : Search) (target node : ℕ)

@@ -8,7 +8,7 @@ use Rattle.relation_semantics.specs.Stores.{Store, universe_of, Constraint, outl
 use Rattle.relation_regions.specs.declared.building.Pairs.{Pairs}
 use Rattle.relation_regions.specs.declared.standing.Standing.{Standing}
 use Rattle.relation_regions.specs.declared.standing.Standing.TheVariants.{Named, Placeholder, Variable}
-use Rattle.relation_regions.specs.Worlds.{static, IsOf, IsMentioned}
+use Rattle.relation_regions.specs.Worlds.{static, IsOf}
 
 -- What a region is, as far as it counts for what it may outlive.
 abbrev pub leaf_standing : Store → Leaf → Standing
@@ -124,15 +124,6 @@ pub record HaveRead (qs : List Constraint) (bound : ℕ) (trees : List Tree) (p 
   pub each_said : length said ≡ length p.shorter.items
   pub each : (k : ℕ) → k < length p.shorter.items → IsAsked qs trees p said k
   pub covered : (j : ℕ) → j < bound → (a b : Tree) → Asks qs j a b → (k : ℕ) × IsPairAt trees p k a b
-
--- The pairs of constraints and of facts, over numbered regions, of which 'static is the first.
-pub record IsProblem (facts : List (Tree × Tree)) (st : Store) (trees : List Tree) (standings : List Standing)
-    (asked : Pairs) (said : List ℕ) (known : Pairs) : Type 0 where
-  pub are_numbered : AreNumbered st trees standings
-  pub mentioned : All (IsMentioned facts st) trees
-  pub static_first : IsAt trees 0 static
-  pub read : HaveRead st.constraints (length st.constraints) trees asked said
-  pub stated : (numbers : List ℕ) × HaveRead (map stating facts) (length facts) trees known numbers
 
 -- The regions of a context that have numbers, as its keys have trees.
 module _ {Key Id Name : Type 0} (c : Context Key Id Name) where

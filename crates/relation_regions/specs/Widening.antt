@@ -3,8 +3,6 @@ use Rattle.std.specs.Prelude.{◌≡◌, ℕ, ◌<◌, ◌≤◌, List, length, 
 use Rattle.relation_regions.specs.declared.graph.Graph.{Graph}
 use Rattle.relation_regions.specs.declared.standing.Standing.{Standing}
 use Rattle.relation_regions.specs.Graphs.{IsGraph, Reaches}
-use Rattle.relation_regions.specs.declared.search.Search.{Search}
-use Rattle.relation_regions.specs.Searches.{IsFound}
 use Rattle.relation_regions.specs.Standings.{IsBeyond}
 
 -- Each reason of a variable is a placeholder that it reaches and can't name.
@@ -18,13 +16,6 @@ pub record AreReasons (g : Graph) (standings : List Standing) (reasons : List (O
 abbrev pub HaveReasons : Graph → List Standing → ℕ → List (Option ℕ) → Type 0
 HaveReasons g standings bound reasons = (a p : ℕ) → p < bound → IsBeyond standings a p → Reaches g a p →
     IsSome (get_or reasons a None)
-
--- The same while a target is looked at, of the nodes below one.
-pub record IsNoted (g : Graph) (standings : List Standing) (found : Search) (target node : ℕ)
-    (reasons : List (Option ℕ)) : Type 0 where
-  pub are : AreReasons g standings reasons
-  pub earlier : HaveReasons g standings target reasons
-  pub looked_at : (a : ℕ) → a < node → IsFound found a → IsBeyond standings a target → IsSome (get_or reasons a None)
 
 -- The graph with an edge to the node 0 from each node below a bound that has a reason.
 pub record IsWidened (g : Graph) (reasons : List (Option ℕ)) (bound : ℕ) (w : Graph) : Type 0 where

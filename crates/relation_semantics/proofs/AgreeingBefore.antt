@@ -1,37 +1,35 @@
 -- What agrees by an earlier record: reading by a later one keeps it, and so does opening binders.
 use Rattle.std.proofs.Common.{◌≡◌, ◌⊎◌, ℕ, zero, suc, ◌+◌, ◌<◌, ◌≤◌, refl, sym, ap, ◌∙◌, inl, inr, subst, subst₂, arith, List}
-use Rattle.std.proofs.Common.{[], ◌∷◌, map}
+use Rattle.std.proofs.Common.{map}
 use Rattle.term_enums.specs.declared.Variance.{Variance}
 use Rattle.term_enums.specs.declared.Variance.TheVariants.{Bivariant}
-use Rattle.relation_terms.specs.Heads.{region_sort, BoundKind, VarKind, var_sort, alias, opaque_alias, unevaluated, Head}
+use Rattle.relation_terms.specs.Heads.{region_sort, BoundKind, VarKind, alias, opaque_alias, Head}
 use Rattle.relation_terms.specs.Heads.{variable, bound, placeholder, atom, unknown}
 use Rattle.relation_terms.specs.Trees.{Tree, leaf, node, bind, nil, cons, apply, inst, count, nth, IsList, Leaves}
 use Rattle.relation_semantics.specs.Relation.{Items, StaysWithin, at, parts, part_at, sort_of, IsAlias}
 use Rattle.relation_semantics.specs.Stores.{Store, Entry, unbound, same_as, bound_to, entry_of, entry_term, MayStandFor}
 use Rattle.relation_semantics.specs.Stores.{IsSound, resolved}
-use Rattle.relation_semantics.specs.Steps.{IsLater, LeadsTo, here, next, AreEquated}
+use Rattle.relation_semantics.specs.Steps.{IsLater, AreEquated}
 use Rattle.relation_semantics.specs.Settings.{Settings}
 use Rattle.relation_semantics.specs.Bound.{AreBoundAs}
 use Rattle.relation_semantics.specs.Errors.{IsReadAs, itself, by_class, by_binding, StandFor, IsDeferred, IsOpaque}
 use Rattle.relation_semantics.specs.Agreeing.{IsLeftOpen, Agree, AgreeIn}
 use Rattle.relation_semantics.proofs.Agreeing.{agree_anything, agree_same, agree_open, deferred_open, agree_regions, agree_parts}
-use Rattle.relation_semantics.proofs.Agreeing.{agree_root, agree_root_back, agree_opened, stands_sort, ComesTo, read_comes}
+use Rattle.relation_semantics.proofs.Agreeing.{agree_root, agree_root_back, stands_sort, ComesTo, read_comes}
 use Rattle.relation_semantics.proofs.Agreeing.{agree_before}
 use Rattle.relation_semantics.proofs.Classes.{class_itself, class_back, class_next, class_through, stands_from, binding_later}
+use Rattle.relation_semantics.proofs.Classes.{leads_nowhere}
 use Rattle.relation_semantics.proofs.OneParts.{count_applied, nth_applied}
 use Rattle.relation_semantics.proofs.Resolved.{resolved_free, resolved_meets}
 use Rattle.relation_semantics.proofs.Standing.{itself_stands, stands_apply}
 use Rattle.relation_semantics.proofs.StoreCalls.{resolved_stands, resolved_within}
 use Rattle.relation_semantics.proofs.Trees.{StaysIn, apply-inst}
+use Rattle.relation_semantics.proofs.AgreeingOpened.{agree_opened}
 
 -- Two of one class that are made one with no other are one.
-ends_there : (st : Store) (k : VarKind) (n r : ℕ) → ((p : ℕ) → entry_of st k n ≡ same_as p → ⊥) → LeadsTo st k n r → n ≡ r
-ends_there st k n r o (here e) = e
-ends_there st k n r o (next {p = p} e l) = absurd (o p e)
-
 one_end : (st : Store) (k : VarKind) (n m : ℕ) → ((p : ℕ) → entry_of st k n ≡ same_as p → ⊥) →
     ((p : ℕ) → entry_of st k m ≡ same_as p → ⊥) → AreEquated st k n m → n ≡ m
-one_end st k n m o u c = ends_there st k n c.0 o c.1 ∙ sym (ends_there st k m c.0 u c.2)
+one_end st k n m o u c = leads_nowhere st k n c.0 o c.1 ∙ sym (leads_nowhere st k m c.0 u c.2)
 
 -- Where nothing escapes, nothing is bound further up.
 within_bound : (ks : List BoundKind) (m d : ℕ) (t : Tree) → m ≤ d → StaysWithin m t → AreBoundAs ks d t

@@ -13,11 +13,11 @@ use Rattle.relation_semantics.specs.Steps.{Taints}
 use Rattle.relation_semantics.specs.Outcomes.{Outcome}
 use Rattle.relation_semantics.specs.AliasGoals.{alias_at}
 use Rattle.relation_semantics.proofs.Going.{later_itself}
-use Rattle.relation_semantics.proofs.Growing.{All_back}
 use Rattle.relation_semantics.proofs.Standing.{term_sort_of, later_context, term_context, stands_term}
 use Rattle.relation_semantics.proofs.Values.{same_value}
 use Rattle.relation_semantics.proofs.Opening.{satisfies_still, satisfied_then, changes_later}
 use Rattle.std.proofs.lemmas.Option.{same_Some}
+use Rattle.relation_folds.proofs.Lists.{All_back}
 
 -- The value of a term of a variable's sort is of that sort.
 value_sort : (st : Store) (s : Assign) (k : VarKind) (t : Tree) → IsAssignment st s → InContext st t → IsTerm (var_sort k) t → sort_of (apply s t) ≡ var_sort k

@@ -7,25 +7,19 @@ use Rattle.term_enums.specs.declared.StructurallyRelateAliases.{StructurallyRela
 use Rattle.term_enums.specs.declared.StructurallyRelateAliases.TheVariants.{No}
 use Rattle.relation_semantics.specs.Relation.{IsAlias, Items}
 use Rattle.relation_semantics.specs.Stores.{Store, Entry, unbound, same_as, bound_to, entry_of, entry_term, bound_term}
-use Rattle.relation_semantics.specs.Steps.{LeadsTo, here, next}
+use Rattle.relation_semantics.specs.Steps.{LeadsTo, here}
 use Rattle.relation_semantics.specs.Generalising.{Stage, Side, any_part, Turn, gives_way_to, Generalised, met_before, met_first, no_type, stays, gives_way, alias_gives_way, by_parts, in_binder, no_parts, next_part}
 use Rattle.relation_semantics.specs.Parts.{IsRigid}
 use Rattle.relation_semantics.specs.Errors.{IsReadAs, itself, by_class, by_binding}
 use Rattle.relation_semantics.specs.Resolving.{IsShallow, root, stays_bound, formed}
 use Rattle.relation_semantics.specs.Measures.{grown}
 use Rattle.term_enums.specs.declared.Variance.{Variance}
-use Rattle.relation_semantics.proofs.Classes.{leads_through, one_leads, class_back}
-use Rattle.relation_semantics.proofs.Only.{which}
+use Rattle.relation_semantics.proofs.Classes.{leads_through, one_leads, class_back, leads_nowhere}
 
 -- What a variable is read as, by its root.
 data RootRead (st : Store) (k : VarKind) (r : ℕ) (y : Tree) : Type 0 where
   unbound_root : entry_of st k r ≡ unbound → y ≡ leaf (variable k r) → RootRead st k r y
   bound_root : (w : Tree) → entry_of st k r ≡ bound_to w → IsReadAs st w y → RootRead st k r y
-
--- A variable without a term leads to itself alone.
-leads_nowhere : (st : Store) (k : VarKind) (n r : ℕ) → ((p : ℕ) → entry_of st k n ≡ same_as p → ⊥) → LeadsTo st k n r → n ≡ r
-leads_nowhere st k n r o (here e) = e
-leads_nowhere st k n r o (next {p = p} e l) = absurd (o p e)
 
 pub free_entry : (st : Store) (k : VarKind) (n : ℕ) → bound_term st k n ≡ None → entry_of st k n ≡ unbound
 free_entry st k n e = go (entry_of st k n) refl

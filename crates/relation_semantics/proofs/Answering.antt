@@ -13,12 +13,12 @@ use Rattle.relation_semantics.specs.Parts.{IsRigid, direct_parts, head_of, const
 use Rattle.relation_semantics.specs.Making.{form_over, const_over}
 use Rattle.relation_semantics.specs.Stores.{Satisfies}
 use Rattle.relation_semantics.specs.Lawful.{Kept, State, Manners, MayAnswer, Passes, declared_by, items_in, items_of}
-use Rattle.relation_semantics.proofs.Growing.{All_front}
 use Rattle.relation_semantics.proofs.Composing.{places, below_or}
 use Rattle.relation_semantics.proofs.Values.{apply-nth, apply-list}
 use Rattle.relation_semantics.proofs.OneParts.{related_head, count_applied}
 use Rattle.relation_semantics.proofs.Lists.{snoc}
 use Rattle.relation_terms.specs.Meaning.{Meaning, Extends}
+use Rattle.relation_folds.proofs.Lists.{All_front}
 
 -- Seen from a variance, covariance is the variance itself.
 pub covariantly : (v : Variance) → xform v Covariant ≡ v

@@ -14,7 +14,7 @@ use Rattle.relation_semantics.specs.Settings.{Settings, DefersAliases}
 use Rattle.relation_semantics.specs.Stores.{Store, Constraint, IsSound, bound_to, entry_of, entry_term, resolved}
 use Rattle.relation_semantics.specs.Goals.{Goal}
 use Rattle.relation_semantics.specs.Steps.{IsLater, HasNoBinder}
-use Rattle.relation_semantics.specs.Alphabets.{Alphabet, IsBuiltOf, StaysBuilt, BuiltFrom}
+use Rattle.relation_semantics.specs.Alphabets.{Alphabet, IsBuiltOf, StaysBuilt, BuiltFrom, BindsBuiltOf}
 use Rattle.relation_semantics.specs.Errors.{IsReadAs, itself, by_binding, IsDeferred, AreOfOneForm, over_parts, over_aliases, one_leaf, parameters}
 use Rattle.relation_semantics.specs.Errors.{AreOfOneConst, AreOfOneValue, values, expressions, over_arguments, one_const_leaf}
 use Rattle.relation_semantics.specs.Errors.{const_parameters, one_value, as_many_branches}
@@ -22,8 +22,8 @@ use Rattle.relation_semantics.specs.Generalising.{Stage, Turn, Generalised, Inst
 use Rattle.relation_semantics.specs.Generalising.{gives_way, alias_gives_way, by_parts, in_binder, no_parts, next_part}
 use Rattle.relation_semantics.specs.Parts.{direct_parts, head_of, const_parts_of, const_head_of, branches_of}
 use Rattle.relation_semantics.specs.Asking.{a_constraint, region_at, HaveAlias, AsksFor, of_regions, of_parts}
-use Rattle.relation_semantics.specs.Recording.{AddsOnly, AskSince, HasNoAliasHead, IsGoneInto, AsksNoMore, FrontAsksNoMore}
-use Rattle.relation_semantics.specs.Recording.{FrontAskSince, LeadsAsking}
+use Rattle.relation_semantics.specs.Recording.{AddsOnly, AskSince, HasNoAliasHead, IsGoneInto, AsksNoMore}
+use Rattle.relation_semantics.specs.Recording.{LeadsAsking}
 use Rattle.relation_semantics.proofs.Asking.{branches_are_asked}
 use Rattle.relation_semantics.proofs.Building.{region_kind_is, built_parts, built_const_parts}
 use Rattle.relation_semantics.proofs.Going.{later_through}
@@ -107,6 +107,14 @@ leads_then g c before middle after v w u a b x y s t gs later f built from h = �
     let z = from k ha hb all in
     let m = h k gone z.0 z.1 (built k ha hb all).binds in
     (m.0 ∙ l.0, λ q st o o'. λ asks. l.1 q st (later_through later o) o' (m.1 q st o o' asks))
+
+-- Each constraint that was added is one that they ask for, of the first parts of two lists of parts of a form.
+abbrev pub FrontAskSince : Items → Head → Variance → ℕ → Tree → Tree → Store → Constraint → Type 0
+FrontAskSince c h v i xs ys since q = (j : ℕ) × (j < i) × AskSince c since q (part_at c h j v) (nth j xs) (nth j ys)
+
+abbrev pub FrontAsksNoMore : Settings → Items → Store → Store → Head → Variance → ℕ → Tree → Tree → Type 0
+FrontAsksNoMore g c before after h v i xs ys = (k : Alphabet) → IsGoneInto g k → IsBuiltOf k xs → IsBuiltOf k ys →
+    BindsBuiltOf k before → AddsOnly (λ q. FrontAskSince c h v i xs ys after q) before.constraints after.constraints
 
 -- None of the parts was related, and one more.
 pub front_none : (g : Settings) (c : Items) (st : Store) (h : Head) (v : Variance) (xs ys : Tree) →

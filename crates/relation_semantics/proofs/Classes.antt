@@ -33,6 +33,11 @@ class_through st k n m p c d = go (one_leads st k m c.0 d.0 c.2 d.1)
     go (inl h) = (d.0, leads_through st k n c.0 d.0 c.1 h, d.2)
     go (inr h) = (c.0, c.1, leads_through st k p d.0 c.0 d.2 h)
 
+-- A variable that is made one with no other leads to itself alone.
+pub leads_nowhere : (st : Store) (k : VarKind) (n r : ℕ) → ((p : ℕ) → entry_of st k n ≡ same_as p → ⊥) → LeadsTo st k n r → n ≡ r
+leads_nowhere st k n r o (here e) = e
+leads_nowhere st k n r o (next {p = p} e l) = absurd (o p e)
+
 -- What one of a class has, all have, where it is handed on by entries.
 leads_alike : (st : Store) (k : VarKind) (v : ℕ → Tree) → ((n p : ℕ) → entry_of st k n ≡ same_as p → v n ≡ v p) → (n m : ℕ) → LeadsTo st k n m → v n ≡ v m
 leads_alike st k v f n m (here e) = ap v e

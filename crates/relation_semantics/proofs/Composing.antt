@@ -14,9 +14,9 @@ use Rattle.relation_semantics.specs.StepLaws.{RelatesLater, RelatesUnderMore, Pa
 use Rattle.relation_semantics.proofs.OneParts.{count_applied}
 use Rattle.relation_semantics.proofs.Values.{same_value, apply-nth, apply-list}
 use Rattle.relation_semantics.proofs.Standing.{later_context}
-use Rattle.relation_semantics.proofs.Growing.{All_front, All_back}
 use Rattle.relation_semantics.proofs.Going.{later_itself, later_through}
 use Rattle.relation_terms.proofs.Paths.{first_path, rest_path, parts_path}
+use Rattle.relation_folds.proofs.Lists.{All_front, All_back}
 
 pub relates_later : RelatesLater
 relates_later c before after goals more e v a b shrinks fewer h w s sat all = h w s (shrinks w s sat) (fewer w s all)

@@ -13,9 +13,9 @@ use Rattle.relation_semantics.specs.Steps.{MakesNone, InstantiatesNone, HasNoBin
 use Rattle.relation_semantics.specs.Steps.{WritesEntry, StandsBeside, as_it_was, led_on, MakesToInstantiate}
 use Rattle.relation_semantics.specs.Goals.{Goal}
 use Rattle.relation_semantics.specs.Alphabets.{StaysBuilt}
-use Rattle.relation_semantics.proofs.Building.{no_universe_made}
 use Rattle.relation_semantics.proofs.Classes.{stands_from}
 use Rattle.relation_semantics.proofs.Only.{which}
+use Rattle.relation_semantics.proofs.BuildingSteps.{no_universe_made}
 
 -- First-order terms have no binder.
 pub first_order_plain : (t : Tree) → IsFirstOrder t → HasNoBinder t

@@ -5,7 +5,7 @@ use Rattle.std.proofs.lemmas.List.{append-nil}
 use Rattle.relation_terms.specs.Trees.{Tree, cons}
 use Rattle.relation_semantics.specs.Stores.{Store, Entry, unbound, entry_of, weight, sum_over}
 use Rattle.relation_semantics.specs.Steps.{IsLater}
-use Rattle.relation_semantics.specs.Measures.{grown, depth, Goes}
+use Rattle.relation_semantics.specs.Measures.{grown, Goes}
 use Rattle.relation_semantics.proofs.Classes.{entry_kept, stands_through}
 
 pub later_itself : (st : Store) → IsLater st st
@@ -73,6 +73,11 @@ le_grown (suc j) n = let h : n * n ≤ grown j (n * n) = le_grown j (n * n) in o
 pub grown-add : (i j n : ℕ) → grown j (grown i n) ≡ grown (i + j) n
 grown-add zero j n = rw zero-add
 grown-add (suc i) j n = rw suc-add (grown-add i j (n * n))
+
+-- A bound on the depth of relating a pair of size `n` with `k` instantiations left.
+abbrev pub depth : ℕ → ℕ → ℕ
+depth zero n = n
+depth (suc k) n = suc (depth k (n * n))
 
 pub depth-mono : (k m n : ℕ) → m ≤ n → depth k m ≤ depth k n
 depth-mono zero m n h = h

@@ -1,7 +1,7 @@
 -- A new variable and a new constraint keep a store sound.
 use Rattle.std.proofs.Common.{◌≡◌, ◌⊎◌, ℕ, zero, suc, ◌≤◌, ◌<◌, refl, sym, ap, ap₂, ◌∙◌, arith, inl, inr, subst, subst₂, get_or, List, [], ◌∷◌, ◌++◌, All, length, length-append}
 use Rattle.std.proofs.lemmas.List.{append-nil, get_or_append_left}
-use Rattle.std.proofs.lemmas.List.Elements.{All-nil, All-cons, All-append, All-head, All-tail}
+use Rattle.std.proofs.lemmas.List.Elements.{All-nil, All-cons, All-append, All-head}
 use native.Mathlib.Decide.{ℕ_discrete}
 use Rattle.relation_terms.specs.Heads.{VarKind, VarKind_discrete, region_var, Leaf, atom, variable, bound, placeholder, unknown}
 use Rattle.relation_terms.specs.Trees.{Tree, Assign, Leaves, size}
@@ -13,6 +13,7 @@ use Rattle.relation_semantics.proofs.Classes.{entry_kept}
 use Rattle.relation_semantics.proofs.Resolved.{resolved_same, resolved_free}
 use Rattle.relation_semantics.proofs.Standing.{own_scope, later_term, later_constraint}
 use Rattle.relation_semantics.proofs.Tallies.{sum_over_append, all_more, all_alike, bound_alike}
+use Rattle.relation_folds.proofs.Lists.{All_front, All_back}
 
 pub entry_push : (es : List Entry) (m : ℕ) → get_or (es ++ unbound ∷ []) m unbound ≡ get_or es m unbound
 entry_push [] zero = refl
@@ -166,15 +167,6 @@ module _ (before after : Store) (k : VarKind) (n u : ℕ) (b : MakesVariable bef
         regions = subst (All (ConstraintHolds w s)) b.same_constraints h.regions;
       };
     }
-
--- Parts of a list.
-pub All_front : {X : Type 0} (P : X → Type 0) (xs ys : List X) → All P (xs ++ ys) → All P xs
-All_front P [] ys h = All-nil P
-All_front P (x ∷ xs) ys h = All-cons P x xs (All-head P x (xs ++ ys) h) (All_front P xs ys (All-tail P x (xs ++ ys) h))
-
-pub All_back : {X : Type 0} (P : X → Type 0) (xs ys : List X) → All P (xs ++ ys) → All P ys
-All_back P [] ys h = h
-All_back P (x ∷ xs) ys h = All_back P xs ys (All-tail P x (xs ++ ys) h)
 
 -- One more constraint.
 module _ (before after : Store) (q : Constraint) (b : AddsConstraint before after q) where

@@ -16,7 +16,7 @@ use Rattle.relation_semantics.specs.Stores.{Store, bound_to, entry_term, IsMade,
 use Rattle.relation_semantics.specs.Stores.{IsIntegerTerm, IsFloatTerm, MayStandFor, InContext, IsSound, Satisfies, resolved}
 use Rattle.relation_semantics.specs.Stores.{weight, counts_bound}
 use Rattle.relation_semantics.specs.FirstOrder.{IsFirstOrder, IsFirstOrderStore}
-use Rattle.relation_semantics.specs.Steps.{InstantiatesNumber, IsNumberFor, HasNoBinder, StaysFull}
+use Rattle.relation_semantics.specs.Steps.{InstantiatesNumber, IsNumberFor, HasNoBinder, StaysFull, IsNumberKind}
 use Rattle.relation_semantics.specs.Measures.{Goes}
 use Rattle.relation_semantics.specs.Outcomes.{Exact, NoEqualTerms, NoUnifier}
 use Rattle.relation_semantics.specs.Settings.{Settings}
@@ -31,17 +31,11 @@ use Rattle.relation_semantics.proofs.Roots.{written_first_order}
 use Rattle.relation_semantics.specs.OneUniverse.{KeepsUniverse}
 use Rattle.relation_semantics.proofs.OneUniverse.{written_keeps}
 
--- A variable of integers or floats.
-abbrev pub IsNumber : VarKind → Type 0
-IsNumber int_var = Unit {0}
-IsNumber float_var = Unit {0}
-IsNumber k = ⊥
-
--- Its type is a form without parts, and itself whatever is assigned and erased.
+-- The type of a variable of integers or floats is a form without parts, and itself whatever is assigned and erased.
 abbrev pub IsAtomFor : VarKind → Tree → Type 0
 IsAtomFor k t = (x : Atom) × (t ≡ leaf (atom x)) × IsNumberFor k (leaf (atom x))
 
-number_kind : (k : VarKind) (t : Tree) → IsNumberFor k t → IsNumber k
+number_kind : (k : VarKind) (t : Tree) → IsNumberFor k t → IsNumberKind k
 number_kind int_var t h = tt
 number_kind float_var t h = tt
 number_kind k t h = h
@@ -81,8 +75,8 @@ module _ (before after : Store) (k : VarKind) (n : ℕ) (t : Tree) (q : Instanti
   is_atom : IsAtomFor k t
   is_atom = number_atom k t q.fits
 
-  other_kind : (j : VarKind) → (IsNumber j → ⊥) → j ≢ k
-  other_kind j o e = o (subst IsNumber (sym e) (number_kind k t q.fits))
+  other_kind : (j : VarKind) → (IsNumberKind j → ⊥) → j ≢ k
+  other_kind j o e = o (subst IsNumberKind (sym e) (number_kind k t q.fits))
 
   absent : Occurs k n (apply (resolved before) t) → ⊥
   absent o = no_variable is_atom.0 (subst (λ z. Occurs k n (apply (resolved before) z)) is_atom.1 o)
@@ -145,7 +139,7 @@ float_value (leaf (variable float_var n)) h v = absurd v
 float_value (leaf (atom x)) h v = (x, refl, h)
 float_value t h v = absurd h
 
-value_of : (st : Store) (s : Assign) → IsAssignment st s → (k : VarKind) → IsNumber k → (n : ℕ) → IsMade st k n →
+value_of : (st : Store) (s : Assign) → IsAssignment st s → (k : VarKind) → IsNumberKind k → (n : ℕ) → IsMade st k n →
     IsAtomFor k (s k n)
 value_of st s a int_var i n m = let z = a int_var n m in integer_value (s int_var n) z.0 z.1
 value_of st s a float_var i n m = let z = a float_var n m in float_value (s float_var n) z.0 z.1
@@ -176,7 +170,7 @@ unfolding InContext
 made_of_leaf st k n h = h
 
 module _ (st : Store) (s : Assign) (a : IsAssignment st s) (x : Atom) where
-  erased_value : (k : VarKind) → IsNumber k → (n : ℕ) → InContext st (leaf (variable k n)) →
+  erased_value : (k : VarKind) → IsNumberKind k → (n : ℕ) → InContext st (leaf (variable k n)) →
       erase (s k n) ≡ leaf (atom x) → (y : Atom) × IsNumberFor k (leaf (atom y)) × (x ≡ y)
   erased_value k i n h e =
       let z = value_of st s a k i n (made_of_leaf st k n h) in
@@ -184,7 +178,7 @@ module _ (st : Store) (s : Assign) (a : IsAssignment st s) (x : Atom) where
       (z.0, z.2, (let r : x ≡ z.0 = cc in r))
 
   -- A variable that has the value of a number.
-  value_leaf : (k : VarKind) → IsNumber k → (j : VarKind) (m : ℕ) → IsTerm type_sort (leaf (variable j m)) →
+  value_leaf : (k : VarKind) → IsNumberKind k → (j : VarKind) (m : ℕ) → IsTerm type_sort (leaf (variable j m)) →
       ((n : ℕ) → leaf (variable j m) ≢ leaf (variable type_var n)) → InContext st (leaf (variable j m)) →
       IsNumberFor k (leaf (atom x)) → erase (s j m) ≡ leaf (atom x) → MayStandFor k (leaf (variable j m))
   value_leaf k i type_var m f o h v e = absurd (o m refl)
@@ -216,7 +210,7 @@ module _ (st : Store) (s : Assign) (a : IsAssignment st s) (x : Atom) where
   no_bound (bound_kind const_kind m) d i f e = f
 
   -- A type that has it.
-  value_type : (k : VarKind) → IsNumber k → (t : Tree) → IsTerm type_sort t →
+  value_type : (k : VarKind) → IsNumberKind k → (t : Tree) → IsTerm type_sort t →
       ((n : ℕ) → t ≢ leaf (variable type_var n)) → InContext st t → IsNumberFor k (leaf (atom x)) →
       erase (apply s t) ≡ leaf (atom x) → MayStandFor k t
   value_type k i (leaf (variable j m)) f o h v e = value_leaf k i j m f o h v e
@@ -243,7 +237,7 @@ variable_alone k n nil a = absurd (cc)
 variable_alone k n (cons t ts) a = absurd (cc)
 
 -- It may not stand for a variable that is none of its kind, nor of types.
-kinds_apart : (k : VarKind) → IsNumber k → (n : ℕ) (j : VarKind) (m : ℕ) → IsTerm type_sort (leaf (variable j m)) →
+kinds_apart : (k : VarKind) → IsNumberKind k → (n : ℕ) (j : VarKind) (m : ℕ) → IsTerm type_sort (leaf (variable j m)) →
     ((p : ℕ) → leaf (variable j m) ≢ leaf (variable type_var p)) → (MayStandFor k (leaf (variable j m)) → ⊥) →
     MayStandFor j (leaf (variable k n)) → ⊥
 kinds_apart k i n type_var m f o differs v = o m refl
@@ -255,7 +249,7 @@ kinds_apart int_var i n float_var m f o differs v = v
 kinds_apart float_var i n int_var m f o differs v = v
 kinds_apart k i n j m f o differs v = i
 
-variable_for : (k : VarKind) → IsNumber k → (n : ℕ) (t : Tree) → IsTerm type_sort t →
+variable_for : (k : VarKind) → IsNumberKind k → (n : ℕ) (t : Tree) → IsTerm type_sort t →
     ((m : ℕ) → t ≢ leaf (variable type_var m)) → (MayStandFor k t → ⊥) → IsVariableFor t (leaf (variable k n)) → ⊥
 variable_for k i n (leaf (variable j m)) f o differs v = kinds_apart k i n j m f o differs v
 variable_for k i n (leaf (bound q d j)) f o differs v = v
@@ -268,7 +262,7 @@ variable_for k i n nil f o differs v = v
 variable_for k i n (cons t ts) f o differs v = v
 
 -- A number variable and a type that may not stand for it, and is no type variable.
-module _ (st : Store) (k : VarKind) (i : IsNumber k) (n : ℕ) (made : IsMade st k n) (t : Tree) (f : IsTerm type_sort t)
+module _ (st : Store) (k : VarKind) (i : IsNumberKind k) (n : ℕ) (made : IsMade st k n) (t : Tree) (f : IsTerm type_sort t)
     (o : (m : ℕ) → t ≢ leaf (variable type_var m)) (h : InContext st t) (differs : MayStandFor k t → ⊥) where
   never_alike : (s : Assign) → IsAssignment st s → erase (s k n) ≡ erase (apply s t) → ⊥
   never_alike s a e =
@@ -319,7 +313,7 @@ module _ (st : Store) (k : VarKind) (i : IsNumber k) (n : ℕ) (made : IsMade st
         )
 
 -- What is no type of numbers of a kind and no variable of it may not stand for one.
-pub no_number : (k : VarKind) (t : Tree) → IsNumber k → (IsNumberFor k t → ⊥) → ((n : ℕ) → t ≢ leaf (variable k n)) →
+pub no_number : (k : VarKind) (t : Tree) → IsNumberKind k → (IsNumberFor k t → ⊥) → ((n : ℕ) → t ≢ leaf (variable k n)) →
     MayStandFor k t → ⊥
 no_number int_var (leaf (variable int_var n)) i a o h = o n refl
 no_number int_var (leaf (atom x)) i a o h = a h
@@ -329,7 +323,7 @@ no_number float_var (leaf (atom x)) i a o h = a h
 no_number float_var t i a o h = h
 no_number k t i a o h = i
 
-pub other_number : (j k : VarKind) (n : ℕ) → IsNumber j → IsNumber k → j ≢ k → MayStandFor k (leaf (variable j n)) → ⊥
+pub other_number : (j k : VarKind) (n : ℕ) → IsNumberKind j → IsNumberKind k → j ≢ k → MayStandFor k (leaf (variable j n)) → ⊥
 other_number j type_var n i a o h = a
 other_number j const_var n i a o h = a
 other_number j region_var n i a o h = a
@@ -339,18 +333,18 @@ other_number int_var float_var n i a o h = h
 other_number float_var int_var n i a o h = h
 other_number j k n i a o h = i
 
-pub number_no_region : (k : VarKind) → IsNumber k → k ≢ region_var
+pub number_no_region : (k : VarKind) → IsNumberKind k → k ≢ region_var
 number_no_region int_var i e = cc
 number_no_region float_var i e = cc
 number_no_region k i e = i
 
-pub number_no_type : (k : VarKind) (n m : ℕ) → IsNumber k → leaf (variable k n) ≢ leaf (variable type_var m)
+pub number_no_type : (k : VarKind) (n m : ℕ) → IsNumberKind k → leaf (variable k n) ≢ leaf (variable type_var m)
 number_no_type int_var n m i e = cc
 number_no_type float_var n m i e = cc
 number_no_type k n m i e = i
 
 -- A type that is no type variable comes to none.
-number_resolved : (k : VarKind) (t : Tree) (n : ℕ) → IsNumber k → MayStandFor k t → t ≢ leaf (variable type_var n)
+number_resolved : (k : VarKind) (t : Tree) (n : ℕ) → IsNumberKind k → MayStandFor k t → t ≢ leaf (variable type_var n)
 number_resolved int_var t n i h e = subst IsIntegerTerm e h
 number_resolved float_var t n i h e = subst IsFloatTerm e h
 number_resolved k t n i h e = i

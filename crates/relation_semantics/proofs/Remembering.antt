@@ -9,6 +9,7 @@ use Rattle.relation_terms.specs.Trees.{Tree, known}
 use Rattle.relation_terms.specs.Meaning.{Meaning, Extends}
 use Rattle.relation_folds.specs.declared.error.RelateFault.{RelateFault}
 use Rattle.relation_folds.specs.declared.error.RelateFault.TheVariants.{Memory}
+use Rattle.relation_folds.proofs.Lists.{All_front}
 use Rattle.relation_semantics.specs.declared.relate.Step.TheVariants.{Done}
 use Rattle.relation_semantics.specs.AskedAlone.{AsksAlone}
 use Rattle.relation_semantics.specs.FirstOrder.{IsFirstOrderStore}
@@ -25,14 +26,13 @@ use Rattle.relation_semantics.specs.Lawful.{State, Pair, Manner, Manners, Passes
 use Rattle.relation_semantics.specs.Lawful.{Stepped, ExactlyRelated, RegisteredIn, BeganWith, AgreesIn, declared_by, items_of, items_in}
 use Rattle.relation_semantics.proofs.Answering.{relates_still, may_itself}
 use Rattle.relation_semantics.proofs.Beginning.{begins_remembering, meant_agreed, agrees_now}
-use Rattle.relation_semantics.proofs.Building.{built_itself}
 use Rattle.relation_semantics.proofs.Full.{full_itself}
 use Rattle.relation_semantics.proofs.Going.{later_itself}
-use Rattle.relation_semantics.proofs.Growing.{All_front}
 use Rattle.relation_semantics.proofs.OneUniverse.{keeps_itself, keeps_pair, keeps_binds}
 use Rattle.relation_semantics.proofs.Keeping.{one_outcome}
 use Rattle.relation_semantics.proofs.Passing.{passes_nowhere, same_manner}
 use Rattle.relation_semantics.proofs.Shrinking.{first_order_before, solved_before}
+use Rattle.relation_semantics.proofs.BuildingSteps.{built_itself}
 
 module _ (M : Manner) (k : Settings) where
   -- Of two terms, while what is recorded and registered grows.

@@ -9,7 +9,6 @@ use Rattle.relation_semantics.specs.Stores.{Store, same_as, entry_term, bound_te
 use Rattle.relation_semantics.specs.FirstOrder.{IsFirstOrder, IsFirstOrderStore}
 use Rattle.relation_semantics.specs.Steps.{Equates, StaysFull}
 use Rattle.relation_semantics.specs.Alphabets.{IsBuiltOf, StaysBuilt}
-use Rattle.relation_semantics.proofs.Building.{built_same, built_equated}
 use Rattle.relation_semantics.specs.Measures.{Goes}
 use Rattle.relation_semantics.specs.Outcomes.{Exact}
 use Rattle.relation_semantics.proofs.Only.{which}
@@ -20,6 +19,7 @@ use Rattle.relation_semantics.proofs.Full.{full_same}
 use Rattle.relation_semantics.proofs.Equating.{equated_goes, equated_later, equated_full, equated_value, equated_keeps}
 use Rattle.relation_semantics.proofs.OneUniverse.{keeps_itself, equated_keeps_universe}
 use Rattle.relation_semantics.proofs.StoreCalls.{equating_is_exact}
+use Rattle.relation_semantics.proofs.BuildingSteps.{built_same, built_equated}
 
 -- One variable got an entry, of a first-order term.
 pub written_first_order : (before after : Store) (k : VarKind) (n : ℕ) (t : Tree) → bound_term after k n ≡ Some t →

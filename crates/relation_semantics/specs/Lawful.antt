@@ -263,14 +263,6 @@ module _ {Key Id Name : Type 0} where
   VerdictAs y M r q added way a b tree (Ok x) = AnswersBy M r q added way a b (tree x)
   VerdictAs y M r q added way a b tree (Err f) = RefusesAs y r q way a b f
 
-  abbrev pub VerdictBy : {X : Type 0} → Manners → State Key Id Name → State Key Id Name → List Goal → Way →
-      Tree → Tree → (X → Tree) → Result X (RelateFault Key Id Name) → Type 0
-  VerdictBy M r q added way a b tree result = VerdictAs as_pair M r q added way a b tree result
-
-  abbrev pub Verdict : {X : Type 0} → Manners → State Key Id Name → State Key Id Name → List Goal → Variance →
-      Tree → Tree → (X → Tree) → Result X (RelateFault Key Id Name) → Type 0
-  Verdict M r q added v = VerdictBy M r q added (at v)
-
   -- What a result says besides where the relation promises to be exact, of first-order terms and records at
   -- invariance: the record stays first-order, and up to erasure just the solutions that unify the terms stay; a type
   -- error says that there was none, and another fault loses none. What stood in one universe does so still, and however

@@ -1,4 +1,4 @@
--- How far sizes may grow while instantiations are made, and how deep relating may go.
+-- How far sizes may grow while instantiations are made.
 use Rattle.std.specs.Prelude.{◌≡◌, ℕ, zero, suc, ◌+◌, ◌*◌, ◌≤◌}
 use Rattle.relation_terms.specs.Trees.{Tree}
 use Rattle.relation_semantics.specs.Stores.{Store, weight, all_bound}
@@ -8,11 +8,6 @@ use Rattle.relation_semantics.specs.Steps.{IsLater, MakesNoNumber}
 abbrev pub grown : ℕ → ℕ → ℕ
 grown zero n = n
 grown (suc j) n = grown j (n * n)
-
--- A bound on the depth of relating a pair of size `n` with `k` instantiations left.
-abbrev pub depth : ℕ → ℕ → ℕ
-depth zero n = n
-depth (suc k) n = suc (depth k (n * n))
 
 -- Between two states a pair of size `n` was related, or a part of the work for it done: the later one is later, each
 -- root that was bound to a term took one from the budget, and each of these squared sizes at most; no variable of a

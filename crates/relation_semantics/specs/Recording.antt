@@ -70,14 +70,6 @@ abbrev pub AsksNoMore : Settings → Items → Store → Store → Variance → 
 AsksNoMore g c before after v a b = (k : Alphabet) → IsGoneInto g k → IsBuiltOf k a → IsBuiltOf k b →
     BindsBuiltOf k before → AddsOnly (λ q. AskSince c after q v a b) before.constraints after.constraints
 
--- The same of the first parts of two lists of parts of a form.
-abbrev pub FrontAskSince : Items → Head → Variance → ℕ → Tree → Tree → Store → Constraint → Type 0
-FrontAskSince c h v i xs ys since q = (j : ℕ) × (j < i) × AskSince c since q (part_at c h j v) (nth j xs) (nth j ys)
-
-abbrev pub FrontAsksNoMore : Settings → Items → Store → Store → Head → Variance → ℕ → Tree → Tree → Type 0
-FrontAsksNoMore g c before after h v i xs ys = (k : Alphabet) → IsGoneInto g k → IsBuiltOf k xs → IsBuiltOf k ys →
-    BindsBuiltOf k before → AddsOnly (λ q. FrontAskSince c h v i xs ys after q) before.constraints after.constraints
-
 -- A step led from two terms to two others and recorded no constraint; what those ask for from then on, these do.
 abbrev pub LeadsAsking : Settings → Items → Store → Store → Variance → Tree → Tree → Variance → Tree → Tree → Type 0
 LeadsAsking g c before after v a b w x y = (k : Alphabet) → IsGoneInto g k → IsBuiltOf k a → IsBuiltOf k b →

@@ -1,19 +1,20 @@
 -- The values of what new variables open.
 use Rattle.std.proofs.Common.{◌≡◌, ℕ, cond, nat_lt, length, arith, List, [], ◌∷◌, refl, sym, ◌∙◌, ap}
-use Rattle.std.proofs.Common.{ap₂, subst, None, map, All, get_or}
+use Rattle.std.proofs.Common.{ap₂, subst, map, All, get_or}
 use Rattle.std.proofs.lemmas.List.Elements.{All-head, All-tail}
 use Rattle.std.proofs.lemmas.Bool.{ltb-true, ltb-false, cond_both}
 use Rattle.relation_terms.specs.Heads.{BoundKind, VarKind, Leaf, variable}
 use Rattle.relation_terms.specs.Trees.{Tree, Assign, apply, inst, Leaves}
 use Rattle.relation_terms.specs.Erasure.{erase}
-use Rattle.relation_semantics.specs.Relation.{Interpretation, all_outlive, IsValueLeaf, StaysWithin}
-use Rattle.relation_semantics.specs.Stores.{Store, Constraint, outlives_constraint, equal_constraint, ConstraintHolds}
+use Rattle.relation_semantics.specs.Relation.{IsValueLeaf, StaysWithin}
+use Rattle.relation_semantics.specs.Stores.{Store}
 use Rattle.relation_semantics.specs.Stores.{MayStandFor, IsNamable, IsMade, universe_of, entry_term}
 use Rattle.relation_semantics.specs.FirstOrder.{IsErasedSolution}
 use Rattle.relation_semantics.specs.Steps.{AreNewVariables, MakesVariables, AgreeOn}
 use Rattle.relation_semantics.proofs.Trees.{StaysIn, Leaves_map, apply-inst, apply_ground}
 use Rattle.relation_semantics.proofs.StoreCalls.{bindings_are_met}
 use Rattle.relation_semantics.proofs.NewVariables.{erased_agrees}
+use Rattle.relation_semantics.proofs.Free.{free, free_holds}
 use Rattle.relation_solver.specs.Solving.{OpenedAreUnconstrained}
 
 -- No value is put into a term without variables.
@@ -43,15 +44,6 @@ before_making before after u ks vars m s h = (
       (p.0, p.1, p.2, subst (λ w. Leaves (IsNamable w) (s k n)) (m.same_universes k n i) p.3),
   λ k n t e. h.1 k n t (ap (entry_term k) (m.same_entries k n) ∙ e),
 )
-
--- Under the interpretation in which all regions outlive each other each constraint holds.
-free : Interpretation
-free = record { outlives = None; equal = []; ordered = [] }
-
-free_holds : (s : Assign) (q : Constraint) → ConstraintHolds free s q
-unfolding free
-free_holds s (outlives_constraint a b) = all_outlive refl
-free_holds s (equal_constraint a b) = (all_outlive refl, all_outlive refl)
 
 -- One assignment for the variables of a store, and another for all others.
 abbrev joined : Store → Assign → Assign → Assign

@@ -17,10 +17,11 @@ use Rattle.relation_statements.specs.Runs.{Standing, Yields, Begins, Runs, State
 use Rattle.relation_statements.specs.Runs.{Closes, AreTooMany}
 use Rattle.relation_statements.specs.Runs.{EachRunCloses}
 use Rattle.relation_statements.proofs.Implying.{is_binder, renamings_imply}
-use Rattle.elaboration_worklist.proofs.Members.{none_in, first_in, later_in, in_cases, map_in, from_map, map_both, map_length}
+use Rattle.elaboration_worklist.proofs.Members.{none_in, later_in, in_cases, map_in, from_map, map_both, map_length}
 use Rattle.elaboration_worklist.proofs.Distinct.{Apart, distinct_both, distinct_left, distinct_apart, no_more}
 use Rattle.relation_statements.proofs.Keeping.{follows_within}
 use Rattle.std.proofs.lemmas.Bool.{false≢true}
+use Rattle.relation_folds.proofs.Lists.{first_in}
 
 module _ (one : RenamingsAreOne) (name : ℕ) where
   -- Predicates are the same but for renaming where one tree stands for both.

@@ -26,9 +26,10 @@ use Rattle.relation_statements.specs.Reach.{supers_named, Reaches, Spreads, Reac
 use Rattle.relation_statements.specs.Reach.{GoesBy, ReachesAll, ByReach}
 use Rattle.relation_statements.specs.Reach.Reaches.{itself, by_super}
 use Rattle.elaboration_worklist.proofs.Members.{none_in}
-use Rattle.elaboration_worklist.proofs.Members.{first_in, later_in, in_cases, map_length, map_both, none_left}
+use Rattle.elaboration_worklist.proofs.Members.{later_in, in_cases, map_length, map_both, none_left}
 use Rattle.relation_statements.proofs.Making.{at_map}
 use Rattle.elaboration_worklist.proofs.Distinct.{Apart, distinct_both, distinct_left, distinct_apart, no_more}
+use Rattle.relation_folds.proofs.Lists.{first_in}
 
 -- Nothing was to be put there.
 pub spreads_none : (stack seen : List ℕ) → Spreads [] stack seen stack seen

@@ -21,22 +21,23 @@ use Rattle.relation_folds.specs.declared.error.RelateFault.TheVariants.{Memory, 
 use Rattle.relation_semantics.specs.OneUniverse.{NamesTypesTo, KeepsUniverseOf, LeadsInUniverse}
 use Rattle.relation_semantics.specs.Lawful.{State, Manners, Passes, Related, ExactResult, RecordsJust, BeganWith, AgreesIn, items_in}
 use Rattle.relation_semantics.specs.Asking.{AsksFor}
-use Rattle.relation_semantics.specs.Recording.{AreBare, FrontAsks, AsksNoMore, FrontAsksNoMore}
+use Rattle.relation_semantics.specs.Recording.{AreBare, FrontAsks, AsksNoMore}
 use Rattle.relation_semantics.proofs.Recording.{bare_nth, stands_itself, records_trivial, front_asks_none}
 use Rattle.relation_semantics.proofs.Recording.{front_goes_on as recorded_on}
 use Rattle.relation_semantics.proofs.OneUniverse.{keeps_itself, keeps_pair, leaves_nth, led_keeps, led_binds, led_fewer}
 use Rattle.relation_semantics.proofs.Going.{pair_grown, later_itself}
 use Rattle.relation_semantics.proofs.Full.{full_itself, full_then, nth_plain}
-use Rattle.relation_semantics.proofs.Building.{built_itself, built_led, built_nth, needs_led}
+use Rattle.relation_semantics.proofs.Building.{built_nth}
 use Rattle.relation_semantics.proofs.Composing.{front_begins, front_goes_on, front_ends}
 use Rattle.relation_semantics.proofs.Keeping.{one_front, unified_front}
-use Rattle.relation_semantics.proofs.AskingSince.{front_none, front_next}
+use Rattle.relation_semantics.proofs.AskingSince.{front_none, front_next, FrontAsksNoMore}
 use Rattle.relation_semantics.proofs.Passing.{passes_nowhere, passes_then, manner_then, outcome_seen, seen_no_more}
 use Rattle.relation_semantics.proofs.Parts.{nth_size}
 use Rattle.relation_semantics.proofs.AgreeingBefore.{parts_agreed}
 use Rattle.relation_semantics.proofs.Beginning.{agrees_then}
 use Rattle.relation_semantics.proofs.AgreeingForms.{next_agrees}
 use Rattle.relation_semantics.proofs.Answering.{same_items, same_settings, same_environment}
+use Rattle.relation_semantics.proofs.BuildingSteps.{built_itself, built_led, needs_led}
 
 -- Forms whose parts are looked at, which are at invariance where the form is.
 abbrev pub IsLookedAt : Head → Type 0

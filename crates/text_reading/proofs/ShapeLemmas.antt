@@ -1,14 +1,19 @@
 -- Rows and their pieces.
 use Rattle.std.proofs.Common.{zero, ◌≡◌, ℕ, ◌<◌, List, [], ◌∷◌, Option, Some, None, IfSome, length, get_or, suc, sym, arith}
 use Rattle.std.specs.List.{slice_get}
+use Rattle.std.specs.Prelude.{IsSomeAnd}
 use Rattle.text_reading.specs.declared.reading.shapes.Piece.{Piece}
-use Rattle.text_reading.specs.Shapes.{Shape, HasPiece, most}
+use Rattle.text_reading.specs.Shapes.{Shape, most}
 
 -- what is there has a number below the length
 pub get_below : {X : Type 0} (xs : List X) (k : ℕ) (x : X) → slice_get xs k ≡ Some x → k < length xs
 get_below [] k x e = absurd cc
 get_below (y ∷ ys) zero x e = omega arith
 get_below (y ∷ ys) (suc k) x e = let p = get_below ys k x e in omega (arith, p)
+
+-- the row of that number has that piece there
+abbrev pub HasPiece : List Shape → ℕ → ℕ → Piece → Type 0
+HasPiece rows row at p = IsSomeAnd (slice_get rows row) (λ (r : Shape). slice_get r.1.now at ≡ Some p)
 
 -- a piece of a row has a number below the most that there are
 pub most_piece : (rs : List Shape) (k at : ℕ) (p : Piece) → HasPiece rs k at p → at < most rs

@@ -1,6 +1,5 @@
 -- Rows and their pieces.
-use Rattle.std.specs.Prelude.{◌≡◌, ℕ, List, [], ◌∷◌, Some, IsSomeAnd, length, max, map}
-use Rattle.std.specs.List.{slice_get}
+use Rattle.std.specs.Prelude.{ℕ, List, [], ◌∷◌, length, max, map}
 use Rattle.std.specs.Borrow.{Bor}
 use Rattle.text_reading.specs.declared.reading.shapes.Makes.{Makes}
 use Rattle.text_reading.specs.declared.reading.shapes.Piece.{Piece}
@@ -15,10 +14,6 @@ Shape = Makes × Bor (List Piece)
 -- the rows that the code has
 abbrev pub rows_in : List Shape → List Row
 rows_in rs = map (λ (r : Shape). (r.0, r.1.now)) rs
-
--- the row of that number has that piece there
-abbrev pub HasPiece : List Shape → ℕ → ℕ → Piece → Type 0
-HasPiece rows row at p = IsSomeAnd (slice_get rows row) (λ (r : Shape). slice_get r.1.now at ≡ Some p)
 
 -- the most pieces that a row has
 abbrev pub most : List Shape → ℕ

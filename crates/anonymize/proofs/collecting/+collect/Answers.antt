@@ -1,5 +1,5 @@
 use Rattle.std.proofs.Common.{rules, arith, refl, sym, ap, ◌∙◌, ◌≡◌, ◌<◌, ◌+◌, ◌*◌, suc, subst, OnOk}
-use Rattle.std.proofs.Common.{[], ◌∷◌, MatchOption, Result, Ok, Err}
+use Rattle.std.proofs.Common.{[], ◌∷◌, MatchOption}
 use Rattle.std.proofs.lemmas.Bool.{OnTrue_at}
 use Rattle.relation_terms.specs.Trees.{size, count, IsList}
 use Rattle.relation_terms.specs.Parts.{part_tree, parts_tree, parts_of}
@@ -8,22 +8,17 @@ use Rattle.relation_terms.proofs.Orders.{order_count, order_list, below_in_order
 use Rattle.relation_terms.specs.Interning.{Sorted}
 use Rattle.relation_terms.proofs.Members.{member_small, parts_small}
 use Rattle.relation_terms.proofs.Parts.{sort_known}
-use Rattle.relation_folds.specs.Folds.{inside}
 use Rattle.anonymize.specs.Anonymous.{here, uses, with_vars}
 use Rattle.anonymize.specs.UsedParts.{AllIn, Remembered}
-use Rattle.relation_folds.proofs.Depths.{inside_known}
+use Rattle.relation_folds.proofs.Depths.{inside_known, inside}
 use Rattle.std.proofs.lemmas.Result.{on_ok_weaker}
 use Rattle.relation_folds.proofs.Remembering.{place_eq}
 use Rattle.anonymize.proofs.UsedVars.{all_added, all_there}
 use Rattle.anonymize.proofs.UsedTrees.{uses_itself, uses_inside, used_next, used_all}
 use Rattle.anonymize.proofs.UsedParts.{remembers_later}
 use Rattle.relation_folds.proofs.Visiting.{has_sort}
+use Rattle.relation_folds.proofs.Folding.{on_ok}
 use Rattle.anonymize.proofs.collecting.+collect.Goals as goal
-
--- What holds anyway holds where there is a value.
-ok_any : {E P : Type 0} (r : Result (Unit {0}) E) → P → OnOk r P
-ok_any (Ok u) p = p
-ok_any (Err e) p = tt
 
 pub collect_list-loop-step-init : goal.collect_list-loop-step-init
 collect_list-loop-step-init g t' c = record { collects = refl; remembered = c.requires.remembered }
@@ -173,7 +168,7 @@ collect_part-keep_collected-requires-clause-remembered g t' c =
     (sym c.deref-2.ensures.value) c.in_ok-collect_new.ensures.kept
 
 pub collect_part-returns-clause-collects : goal.collect_part-returns-clause-collects
-collect_part-returns-clause-collects g t' c = ok_any c.keep_collected.result c.in_ok-collect_new.ensures.collects
+collect_part-returns-clause-collects g t' c = on_ok c.keep_collected.result _ c.in_ok-collect_new.ensures.collects
 
 pub collect_part-returns-clause-kept : goal.collect_part-returns-clause-kept
 collect_part-returns-clause-kept g t' c =

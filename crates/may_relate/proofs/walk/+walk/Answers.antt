@@ -4,8 +4,9 @@ use Rattle.relation_terms.specs.Parts.{part_tree, parts_tree, parts_of}
 use Rattle.relation_terms.proofs.Members.{member_small, parts_small}
 use Rattle.may_relate.specs.Around.{sorts_around}
 use Rattle.may_relate.specs.Fitting.{FitsAll, SomeUnfit, TellsUnfit}
-use Rattle.may_relate.proofs.Wholes.{fits_list, part_whole, handed_on, on_ok, refused}
+use Rattle.may_relate.proofs.Wholes.{fits_list, part_whole, handed_on, refused}
 use Rattle.may_relate.proofs.Wholes.{unfit_nth, unfit_own, unfit_part}
+use Rattle.relation_folds.proofs.Folding.{on_ok}
 use Rattle.may_relate.proofs.walk.+walk.Goals as goal
 
 pub list_fits-part_fits-requires : goal.list_fits-part_fits-requires

@@ -2,9 +2,9 @@ use Rattle.std.proofs.Common.{refl}
 use Rattle.relation_semantics.specs.Parts.{IsFormedConst}
 use Rattle.plain_relation.specs.Plain.{plain_store, plain_state, plain_manner}
 use Rattle.relation_recursion.proofs.Compared.{formed_const}
-use Rattle.relation_semantics.proofs.Passing.{parts_left}
 use Rattle.relation_semantics.proofs.Recording.{records_trivial, stands_itself}
 use Rattle.relation_semantics.proofs.Standing.{term_within}
+use Rattle.relation_semantics.proofs.Retelling.{parts_left}
 use Rattle.plain_relation.proofs.PlainLemmas.{no_const_variable, none_left}
 use Rattle.plain_relation.proofs.PlainRelationTypeRelation.consts.Goals as goal
 

@@ -1,5 +1,5 @@
 use Rattle.plain_relation.specs.Plain.{plain_state}
-use Rattle.relation_semantics.proofs.Passing.{noted_nothing}
+use Rattle.relation_semantics.proofs.Retelling.{noted_nothing}
 use Rattle.plain_relation.proofs.PlainRelationTypeRelation.note_ty_args.Goals as goal
 
 pub returns-clause-noted : goal.returns-clause-noted

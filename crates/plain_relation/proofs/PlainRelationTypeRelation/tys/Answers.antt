@@ -1,8 +1,8 @@
 use Rattle.std.proofs.Common.{refl}
 use Rattle.relation_semantics.specs.Parts.{IsRigid}
 use Rattle.plain_relation.specs.Plain.{plain_state, plain_manner}
-use Rattle.relation_semantics.proofs.Passing.{parts_left}
 use Rattle.relation_semantics.proofs.Recording.{records_trivial, stands_itself}
+use Rattle.relation_semantics.proofs.Retelling.{parts_left}
 use Rattle.plain_relation.proofs.PlainLemmas.{formed, none_left}
 use Rattle.plain_relation.proofs.PlainRelationTypeRelation.tys.Goals as goal
 

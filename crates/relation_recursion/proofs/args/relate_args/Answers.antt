@@ -13,12 +13,13 @@ use Rattle.relation_semantics.proofs.Parts.{in_parts}
 use Rattle.relation_terms.proofs.Stays.{stays_list, stays_arg}
 use Rattle.relation_folds.specs.declared.error.RelateFault.TheVariants.{Memory}
 use Rattle.relation_semantics.proofs.Lists.{snoc, list_push}
-use Rattle.relation_semantics.proofs.Passing.{as_err, made_or_not}
+use Rattle.relation_semantics.proofs.Passing.{as_err}
 use Rattle.relation_steps.proofs.Fronts.{Fronted, fronted_none, fronted_next}
 use Rattle.relation_recursion.proofs.Looping.{next_asked}
 use Rattle.relation_recursion.proofs.Arguments.{form_related, form_refused, form_stopped, args_related_head, args_looked_at, args_normal}
 use Rattle.relation_recursion.proofs.Arguments.{args_first_order, args_complain, args_heads}
 use Rattle.relation_semantics.proofs.Answering.{same_items, AreAnswers, answers_none, answers_next, answers_end, may_form, if_ok_both}
+use Rattle.relation_semantics.proofs.Retelling.{made_or_not}
 use Rattle.relation_recursion.proofs.args.relate_args.Goals as goal
 use Rattle.relation_terms.proofs.Members.{terms_list}
 

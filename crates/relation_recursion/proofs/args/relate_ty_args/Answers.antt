@@ -6,9 +6,11 @@ use Rattle.relation_semantics.specs.Parts.{head_of}
 use Rattle.relation_steps.specs.Arguments.{args_head}
 use Rattle.relation_semantics.specs.Lawful.{Asked, Related, Shown, MayAnswer}
 use Rattle.relation_semantics.proofs.Building.{built_as}
-use Rattle.relation_semantics.proofs.Passing.{as_err, asked_later, refused_again, noted_related, noted_refused, made_or_not, related_agrees, shown_now}
+use Rattle.relation_semantics.proofs.Passing.{as_err, asked_later}
 use Rattle.relation_recursion.proofs.Arguments.{args_heads, over_later}
 use Rattle.relation_semantics.proofs.Answering.{if_ok_both}
+use Rattle.relation_semantics.proofs.PassingOn.{noted_related, noted_refused}
+use Rattle.relation_semantics.proofs.Retelling.{refused_again, made_or_not, related_agrees, shown_now}
 use Rattle.relation_recursion.proofs.args.relate_ty_args.Goals as goal
 
 pub relate_args-requires-clause-asked : goal.relate_args-requires-clause-asked

@@ -1,7 +1,7 @@
 use Rattle.std.proofs.Common.{◌≡◌, subst}
 use Rattle.relation_terms.specs.Meaning.{kind_tree}
-use Rattle.relation_semantics.proofs.Passing.{noted_nothing}
 use Rattle.relation_recursion.proofs.OverItems.{adt_beside_other, fn_beside_other, over_none}
+use Rattle.relation_semantics.proofs.Retelling.{noted_nothing}
 use Rattle.relation_recursion.proofs.reading.note_args.Goals as goal
 
 pub returns-in_default-ty_kind-clause-noted : goal.returns-in_default-ty_kind-clause-noted

@@ -1,6 +1,6 @@
 use Rattle.std.proofs.Common.{◌≡◌, ◌∙◌, ap, Option, Some, None, IfNone, not, false}
 use Rattle.std.proofs.Common.{is_some}
-use Rattle.relation_semantics.proofs.Passing.{noted_nothing}
+use Rattle.relation_semantics.proofs.Retelling.{noted_nothing}
 use Rattle.relation_recursion.proofs.reading.note_declared.Goals as goal
 
 -- What is said where there is none is so where none was found.

@@ -19,7 +19,6 @@ use Rattle.relation_semantics.specs.Parts.{IsRigid, IsFormedConst, IsByParts, Is
 use Rattle.relation_semantics.specs.Parts.{IsBinderPart, ArePaired, direct_parts, const_parts_of, head_of}
 use Rattle.relation_semantics.specs.Parts.{const_head_of}
 use Rattle.relation_semantics.specs.Stores.{weight}
-use Rattle.relation_semantics.specs.Measures.{depth}
 use Rattle.part_variances.proofs.Patterns.{term_alike, term_decides, part_sorted, compared_is}
 use Rattle.part_variances.proofs.PartPlaces.{related_part, paired_part}
 use Rattle.relation_recursion.proofs.InOrder.{terms_stopped, terms_answer, terms_unlike, term_refused, terms_differ}
@@ -43,12 +42,15 @@ use Rattle.relation_semantics.proofs.OneParts.{parts_counted, const_parts_counte
 use Rattle.relation_recursion.proofs.Compared.{parts_of_list, const_parts_list}
 use Rattle.part_variances.proofs.Handed.{AreOfTwoKinds, no_lifetime, no_ty, no_const_arg, HaveAsManyInputs}
 use Rattle.relation_semantics.proofs.Building.{built_again, built_as}
-use Rattle.relation_semantics.proofs.Passing.{asked_later, parts_related, again_related, again_refused, again_shown, again_agreed, related_agrees, manner_then, noted_related, noted_refused}
-use Rattle.relation_semantics.proofs.Passing.{turned, unlooked, step_done, retold, refused_again, shown_now, as_err}
+use Rattle.relation_semantics.proofs.Passing.{asked_later, manner_then}
+use Rattle.relation_semantics.proofs.Passing.{as_err}
 use Rattle.relation_semantics.proofs.Registered.{directed_from}
 use Rattle.relation_semantics.specs.Goals.{IsDirected}
-use Rattle.relation_semantics.proofs.Passing.{form_made, forms_met, step_refused}
+use Rattle.relation_semantics.proofs.Passing.{forms_met}
 use Rattle.relation_semantics.proofs.Deferring.{form_not_left}
+use Rattle.relation_semantics.proofs.Going.{depth}
+use Rattle.relation_semantics.proofs.PassingOn.{parts_related, again_related, again_refused, noted_related, noted_refused}
+use Rattle.relation_semantics.proofs.Retelling.{again_shown, again_agreed, related_agrees, turned, unlooked, step_done, retold, refused_again, shown_now, form_made, step_refused}
 use Rattle.relation_steps.proofs.Fronts.{Fronted, fronted_none, fronted_next}
 use Rattle.relation_recursion.proofs.StructuralTys.{types_related, types_stopped, ty_refused}
 use Rattle.relation_recursion.proofs.StructuralConsts.{consts_related, consts_stopped, const_refused, itself_related, left_error, right_error, types_differ, consts_differ, kinds_differ}

@@ -3,9 +3,9 @@ use Rattle.relation_terms.specs.Trees.{count}
 use Rattle.relation_terms.specs.Meaning.{arg_tree}
 use Rattle.relation_terms.specs.Parts.{part_tree, Fit}
 use Rattle.relation_semantics.specs.Stores.{weight}
-use Rattle.relation_semantics.specs.Measures.{depth}
 use Rattle.relation_semantics.specs.Parts.{direct_parts, const_parts_of, head_of, const_head_of}
 use Rattle.relation_semantics.specs.Making.{FitArgs}
+use Rattle.relation_semantics.proofs.Going.{depth}
 use Rattle.relation_steps.proofs.Fronts.{Fronted, AreParts}
 use Rattle.part_variances.proofs.Handed.{HaveAsManyInputs}
 use Rattle.relation_recursion.proofs.Kept.{AreKept}

@@ -3,7 +3,8 @@ use Rattle.relation_terms.specs.Heads.{object}
 use Rattle.relation_terms.specs.Trees.{node}
 use Rattle.relation_terms.specs.Parts.{part_tree}
 use Rattle.relation_semantics.specs.Lawful.{Related}
-use Rattle.relation_semantics.proofs.Passing.{retold, refused_again, as_err}
+use Rattle.relation_semantics.proofs.Passing.{as_err}
+use Rattle.relation_semantics.proofs.Retelling.{retold, refused_again}
 use Rattle.relation_recursion.proofs.structural.objects.Goals as goal
 
 pub relate_parts-requires-clause-paired : goal.relate_parts-requires-clause-paired

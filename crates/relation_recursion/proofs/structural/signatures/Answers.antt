@@ -2,7 +2,8 @@ use Rattle.std.proofs.Common.{refl, sym, ap, subst, inr}
 use Rattle.relation_terms.specs.Meaning.{signature_tree}
 use Rattle.relation_terms.specs.Parts.{part_tree}
 use Rattle.relation_semantics.specs.Lawful.{Related}
-use Rattle.relation_semantics.proofs.Passing.{retold, refused_again, as_err}
+use Rattle.relation_semantics.proofs.Passing.{as_err}
+use Rattle.relation_semantics.proofs.Retelling.{retold, refused_again}
 use Rattle.relation_recursion.proofs.structural.signatures.Goals as goal
 
 pub relate_parts-requires-clause-paired : goal.relate_parts-requires-clause-paired

@@ -1,15 +1,12 @@
 -- Whether the next node is added.
-use Rattle.std.proofs.Common.{arith, ◌≡◌, ◌<◌, ◌∙◌, ap, sym, length, ℕ, true, false, Bool}
+use Rattle.std.proofs.Common.{arith, ◌<◌, ◌∙◌, ap, sym, length, ℕ, true, false}
 use Rattle.std.specs.Global.{Vec}
-use Rattle.relation_regions.proofs.Widened.{some_as_read}
+use Rattle.relation_regions.proofs.Widened.{some_as_read, both_ways}
 use Rattle.relation_regions.proofs.Deciding.{value_added, value_passed}
 use Rattle.relation_regions.proofs.decide.add_values.Goals as goal
 use Rattle.relation_regions.proofs.decide.add_values.Goals.{then-not-is_given+then-is_some+in_ok-push, else-not-is_given}
 use Rattle.relation_regions.proofs.decide.add_values.Goals.{else-not-is_given-via-then-not-is_given+else-is_some}
 use Rattle.relation_regions.proofs.decide.add_values.Goals.{else-not-is_given-via-else-not-is_given}
-
-both_ways : {b : Bool} → b ≡ true → b ≡ false → ⊥
-both_ways p q = absurd cc
 
 pub loop-node-preserved : goal.loop-node-preserved
 loop-node-preserved c =

@@ -1,14 +1,11 @@
 -- Whether the next node is noted.
-use Rattle.std.proofs.Common.{arith, ◌≡◌, ◌<◌, ◌∙◌, ap, sym, length, Option, ℕ, true, false, Bool}
+use Rattle.std.proofs.Common.{arith, ◌<◌, ◌∙◌, ap, sym, length, Option, ℕ, true, false}
 use Rattle.std.specs.Global.{Vec}
-use Rattle.relation_regions.proofs.Widened.{noted_yes, noted_no, all_noted, some_as_read, found_in}
+use Rattle.relation_regions.proofs.Widened.{noted_yes, noted_no, all_noted, some_as_read, found_in, both_ways}
 use Rattle.relation_regions.proofs.widening.note_reasons.Goals as goal
 use Rattle.relation_regions.proofs.widening.note_reasons.Goals.{then-is_some+then-is_beyond, else-is_some}
 use Rattle.relation_regions.proofs.widening.note_reasons.Goals.{else-is_some-via-then-is_some+else-is_beyond}
 use Rattle.relation_regions.proofs.widening.note_reasons.Goals.{else-is_some-via-else-is_some}
-
-both_ways : {b : Bool} → b ≡ true → b ≡ false → ⊥
-both_ways p q = absurd cc
 
 pub loop-node-preserved : goal.loop-node-preserved
 loop-node-preserved c =

@@ -1,5 +1,5 @@
 -- The nodes below the counter are looked at.
-use Rattle.relation_regions.specs.Widening.{IsNoted}
+use Rattle.relation_regions.proofs.Widened.{IsNoted}
 use Rattle.relation_regions.proofs.widening.note_reasons.Given as goal
 
 abbrev pub invariant-loop-node : goal.invariant-loop-node

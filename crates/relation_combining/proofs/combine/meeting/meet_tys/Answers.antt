@@ -3,8 +3,8 @@ use Rattle.relation_terms.specs.Heads.{variable}
 use Rattle.relation_terms.specs.Trees.{leaf}
 use Rattle.relation_combining.specs.Combining.{equated, left_bound, right_bound, ty_variable}
 use Rattle.relation_combining.specs.NumberVars.{number_kind, number_of}
-use Rattle.relation_combining.proofs.Combining.{is_number_kind}
 use Rattle.relation_combining.proofs.Shallowly.{variable_made}
+use Rattle.relation_combining.proofs.NumberVars.{is_number}
 use Rattle.relation_combining.proofs.combine.meeting.meet_tys.Goals as goal
 use Rattle.relation_semantics.proofs.AliasSteps.{shallow_free}
 
@@ -58,7 +58,7 @@ returns-else-not-equate_numbers-clause-combines g c =
     let w = c.in-Some-number_var.y in
     let one : (s.meaning).ty c.args.b.now ≡ leaf (variable (number_kind v) (number_of w)) =
     c.in-Some-number_var.ensures.is ∙ ap (λ k. leaf (variable k (number_of w))) (done.one_kind refl) in
-    equated (number_kind v) (number_of v) (number_of w) (is_number_kind v) c.in-Some.ensures.is one
+    equated (number_kind v) (number_of v) (number_of w) (is_number v) c.in-Some.ensures.is one
     (record { same = two.same; equates = two.equates }) refl
 
 pub returns-else-not-bind_number-clause-combines : goal.returns-else-not-bind_number-clause-combines

@@ -6,13 +6,13 @@ use Rattle.relation_terms.proofs.Stays.{knows_as}
 use Rattle.relation_terms.specs.Interning.{Sorted}
 use Rattle.relation_terms.proofs.Members.{member_small, parts_small, if_ok}
 use Rattle.relation_terms.proofs.Parts.{sort_known, stays_part, stays_parts}
-use Rattle.relation_folds.specs.Folds.{Folds, KnownAnswer, IsMade, folded, folded_parts, inside}
+use Rattle.relation_folds.specs.Folds.{Folds, KnownAnswer, IsMade, folded, folded_parts}
 use Rattle.relation_folds.proofs.Folding.{steps_none, steps_on, steps_grown, folded_later, parts_later, later, on_ok}
 use Rattle.relation_folds.specs.declared.fold.memory.Memory.{Memory}
 use Rattle.relation_folds.proofs.Remembering.{place_eq, remembers_on, remembers_as}
 use Rattle.relation_folds.proofs.Members.{upon_firsts, upon_next, upon_all, upon_top, upon_left, upon_below}
 use Rattle.relation_folds.proofs.Members.{stack_as, left_more, left_all, whole_made, whole_left}
-use Rattle.relation_folds.proofs.Depths.{inside_known}
+use Rattle.relation_folds.proofs.Depths.{inside_known, inside}
 use Rattle.relation_folds.proofs.fold.walk.+walk.Goals as goal
 use Rattle.relation_folds.proofs.fold.walk.+walk.Goals.{fold_members-then-differs+in_ok-push}
 use Rattle.relation_folds.proofs.fold.walk.+walk.Goals.{fold_members-else-differs+else-not-is_same}

@@ -7,10 +7,10 @@ use Rattle.relation_terms.proofs.Orders.{order_count, order_list, below_in_order
 use Rattle.relation_terms.specs.Interning.{Sorted}
 use Rattle.relation_terms.proofs.Members.{member_small, parts_small}
 use Rattle.relation_terms.proofs.Parts.{sort_known}
-use Rattle.relation_folds.specs.Visits.{Walks, visited_sort, told_inside}
+use Rattle.relation_folds.specs.Visits.{Walks, visited_sort}
 use Rattle.relation_folds.proofs.Visiting.{visited_as, has_sort, when_entered, when_skipped, when_stopped}
 use Rattle.relation_folds.proofs.Visiting.{over_next, over_last, over_end}
-use Rattle.relation_folds.proofs.Depths.{told_known}
+use Rattle.relation_folds.proofs.Depths.{told_known, told_inside}
 use Rattle.relation_folds.proofs.visit.walk.+walk.Goals as goal
 
 pub visit_list-loop-step-init : goal.visit_list-loop-step-init

@@ -10,7 +10,8 @@ use Rattle.relation_semantics.specs.Lawful.{Asked, Related}
 use Rattle.relation_semantics.specs.Relation.{sort_of}
 use Rattle.relation_terms.specs.Heads.{type_sort}
 use Rattle.relation_steps.specs.Alone.{RelatesAtOnce}
-use Rattle.relation_semantics.proofs.Passing.{retold, refused_again, as_err}
+use Rattle.relation_semantics.proofs.Passing.{as_err}
+use Rattle.relation_semantics.proofs.Retelling.{retold, refused_again}
 use Rattle.relation_recursion.proofs.Alone.{left_none, right_none, const_none, refused_told}
 use Rattle.relation_recursion.proofs.StructuralConsts.{kinds_differ}
 use Rattle.relation_recursion.proofs.RelatableValues.{else_const, else_ty}

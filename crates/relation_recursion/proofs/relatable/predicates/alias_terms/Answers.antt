@@ -5,7 +5,8 @@ use Rattle.relation_terms.specs.Interning.{Sorted}
 use Rattle.relation_terms.specs.Predicates.{alias_term_kind, alias_term_id, alias_term_tree}
 use Rattle.relation_folds.specs.declared.error.RelateFault.TheVariants.{Unrelated}
 use Rattle.relation_semantics.specs.Lawful.{Related}
-use Rattle.relation_semantics.proofs.Passing.{as_err, refused_again, retold}
+use Rattle.relation_semantics.proofs.Passing.{as_err}
+use Rattle.relation_semantics.proofs.Retelling.{refused_again, retold}
 use Rattle.relation_recursion.proofs.Items.{items_differ, asked_over}
 use Rattle.relation_recursion.proofs.relatable.predicates.alias_terms.Goals as goal
 use Rattle.relation_terms.proofs.Members.{terms_list}

@@ -21,7 +21,6 @@ use Rattle.relation_recursion.proofs.RelatableValues.{equal_one, one_equal}
 use Rattle.context_relation.proofs.Relating.{answered_alone_in, refused_alone_in, answered_taints, refused_taints, answered_open, refused_open, refused_built}
 use Rattle.context_relation.proofs.Relating.{keeps_by, unified_by, refused_keeps, refused_exactly}
 use Rattle.relation_semantics.specs.Alphabets.{StaysBuilt, NeedsVariable}
-use Rattle.relation_semantics.proofs.Building.{built_itself}
 use Rattle.relation_combining.proofs.OverContext.{all_taken}
 use Rattle.context_relation.proofs.Solving.{keeps_beside, none_held, answers_goals, keeps_equal, relates_agreeing, registers_goals, no_goals_exactly}
 use Rattle.context_relation.proofs.Solving.{adds_just_asked, adds_no_more}
@@ -29,6 +28,7 @@ use Rattle.relation_semantics.proofs.AskingSince.{no_more_same}
 use Rattle.relation_semantics.specs.Recording.{IsJustAsked}
 use Rattle.relation_semantics.proofs.Recording.{nothing_asked}
 use Rattle.relation_semantics.proofs.AgreeingBefore.{same_agreed}
+use Rattle.relation_semantics.proofs.BuildingSteps.{built_itself}
 use Rattle.type_relations.proofs.Refusing.{none_answered, unrelated, fault_known, pays}
 use Rattle.type_relations.proofs.relate.solver_relating.relate_as.Goals as goal
 use Rattle.context_relation.proofs.Closed.{needs_as, budget_verdict}

@@ -2,7 +2,8 @@ use Rattle.std.proofs.Common.{sym, ap, subst}
 use Rattle.relation_terms.specs.declared.predicate.existential.ExistentialPredicate.TheVariants.{Projection}
 use Rattle.relation_terms.specs.Meaning.{existential_tree}
 use Rattle.relation_semantics.specs.Lawful.{Related}
-use Rattle.relation_semantics.proofs.Passing.{retold, refused_again, as_err}
+use Rattle.relation_semantics.proofs.Passing.{as_err}
+use Rattle.relation_semantics.proofs.Retelling.{retold, refused_again}
 use Rattle.relation_recursion.proofs.relatable.forms.ExistentialProjectionKeyIdRelate.relate.Goals as goal
 
 pub returns-clause-related : goal.returns-clause-related

@@ -3,7 +3,8 @@ use Rattle.relation_terms.specs.declared.terms.alias.AliasTy.{AliasTy}
 use Rattle.relation_terms.specs.Predicates.{alias_term_tree}
 use Rattle.relation_folds.specs.Aliases.{alias_ty_tree}
 use Rattle.relation_semantics.specs.Lawful.{Asked, Related}
-use Rattle.relation_semantics.proofs.Passing.{as_err, refused_again, retold}
+use Rattle.relation_semantics.proofs.Passing.{as_err}
+use Rattle.relation_semantics.proofs.Retelling.{refused_again, retold}
 use Rattle.relation_recursion.proofs.Items.{type_as_term}
 use Rattle.relation_recursion.proofs.relatable.predicates.AliasTyKeyIdRelate.relate.Goals as goal
 
