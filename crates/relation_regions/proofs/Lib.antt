@@ -20,6 +20,7 @@ pub mod InWorlds
 pub mod RegionNumbers
 pub mod Numbers
 pub mod ReadPairs
+pub mod ReadProblems
 pub mod Sorts
 pub mod Universes
 pub mod AskedRegions

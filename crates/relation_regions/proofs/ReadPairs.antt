@@ -3,7 +3,7 @@ use borrow.Author.Count.{below_more}
 use Rattle.std.proofs.Common.{◌≡◌, ℕ, ◌<◌, ◌+◌, List, [], ◌∷◌, ◌++◌, length, get_or, sym, ◌∙◌, ap, refl, subst, arith}
 use Rattle.std.proofs.Common.{inl, inr, map}
 use Rattle.std.specs.List.{Contains}
-use Rattle.std.proofs.lemmas.List.{get_or_append_left, get_or_push, get_or_default, length-map}
+use Rattle.std.proofs.lemmas.List.{get_or_append_left, get_or_push, get_or_default}
 use Rattle.std.proofs.lemmas.List.Elements.{Contains-append_cases}
 use Rattle.relation_terms.specs.Trees.{Tree}
 use Rattle.relation_semantics.specs.Stores.{Store, Constraint, outlives_constraint, equal_constraint}
@@ -253,12 +253,12 @@ module _ (facts : List (Tree × Tree)) (st : Store) (t0 t1 t2 t3 : List Tree) (e
 
   pub are_problem : (standings : List Standing) (asked : Pairs) (said : List ℕ) (known : Pairs) (numbers : List ℕ) →
       AreNumbered st t3 standings → HaveRead st.constraints (length st.constraints) t2 asked said →
-      HaveRead (map stating facts) (length (map stating facts)) t3 known numbers →
+      HaveRead (map stating facts) (length facts) t3 known numbers →
       IsProblem facts st t3 standings asked said known
   are_problem standings asked said known numbers h read stated = record {
     are_numbered = h;
     mentioned = λ i d lt. all_mentioned (get_or t3 i d) (i, lt, get_or_default t3 i (get_or t3 i d) d lt);
     static_first = third.kept 0 static (second.kept 0 static static_first);
     read = read_kept st.constraints (length st.constraints) asked said third read;
-    stated = (numbers, subst (λ b. HaveRead (map stating facts) b t3 known numbers) (length-map facts stating) stated);
+    stated = (numbers, stated);
   }
