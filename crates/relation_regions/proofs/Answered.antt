@@ -1,5 +1,5 @@
 -- What is solved of a problem is so of the regions of the context.
-use Rattle.std.proofs.Common.{◌≡◌, ℕ, ◌<◌, ◌≤◌, ◌^◌, List, [], ◌∷◌, length, get_or, sym, ◌∙◌, refl, subst, arith, All, map}
+use Rattle.std.proofs.Common.{◌≡◌, ℕ, ◌<◌, ◌≤◌, ◌^◌, List, [], ◌∷◌, length, get_or, sym, ◌∙◌, subst, arith, All}
 use Rattle.std.proofs.Common.{Result, Ok, Err, IfOk}
 use Rattle.std.specs.Prelude.{IsPermutation}
 use Rattle.std.proofs.lemmas.List.{get_or_default, get_or-map, length-map}
@@ -11,7 +11,7 @@ use Rattle.relation_terms.specs.Heads.{region_var}
 use Rattle.relation_terms.specs.Trees.{Tree}
 use Rattle.relation_semantics.specs.Contexts.{Context}
 use Rattle.relation_semantics.specs.ContextCalls.{IsNotVariable}
-use Rattle.relation_semantics.specs.Stores.{Store, IsRegionIn, IsTermIn, InContext, IsSound}
+use Rattle.relation_semantics.specs.Stores.{IsRegionIn, IsSound}
 use Rattle.relation_regions.specs.declared.building.Pairs.{Pairs}
 use Rattle.relation_regions.specs.declared.standing.Standing.{Standing}
 use Rattle.relation_regions.specs.declared.decide.Decision.{Decision}

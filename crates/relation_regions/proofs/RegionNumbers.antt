@@ -13,7 +13,7 @@ use Rattle.relation_semantics.specs.Stores.{Store, IsRegionIn, IsTermIn, InConte
 use Rattle.relation_regions.proofs.Columns.{length_more}
 use Rattle.relation_regions.specs.Worlds.{static}
 use Rattle.relation_regions.proofs.NumbersFound.{AddsRegion, same, put_last, adds_region}
-use Rattle.relation_regions.specs.Reading.{numbered, IsAt, AreDistinct, HaveNumbers, GrowsBy, Reader}
+use Rattle.relation_regions.specs.Reading.{numbered, IsAt, AreDistinct, HaveNumbers, GrowsBy}
 use Rattle.relation_regions.specs.Reading.{GetsNumber}
 use Rattle.relation_regions.proofs.ReadPairs.{grows_same, grows_pushed}
 

@@ -113,12 +113,14 @@ fn standing<C: InferCtxtLike>(ctx: &C, region: &Region<C::Interner>) -> Standing
     ensures { let c = C.state ctx.now in result ≡ standing_in c.store ((c.meaning).region region.now) }
 {
     match ctx.cx().region_kind(region) {
+        RegionKind::ReStatic => Standing::Named,
+        RegionKind::ReEarlyParam(_) => Standing::Named,
+        RegionKind::ReBound(..) => Standing::Named,
         RegionKind::ReVar(vid) => match ctx.universe_of_lt(vid) {
             Some(universe) => Standing::Variable(universe.0),
             None => Standing::Named,
         },
         RegionKind::RePlaceholder(placeholder) => Standing::Placeholder(placeholder.universe.0),
-        _ => Standing::Named,
     }
 }
 

@@ -1,8 +1,8 @@
 -- What one more region is.
-use Rattle.std.proofs.Common.{◌≡◌, ◌<◌, List, length, map, take, sym, ◌∙◌, ap, subst, arith}
+use Rattle.std.proofs.Common.{◌≡◌, ◌<◌, length, map, sym, subst, arith}
 use Rattle.std.proofs.lemmas.List.{length-map, take_all}
 use Rattle.relation_semantics.specs.Stores.{IsRegionIn}
-use Rattle.relation_regions.specs.Reading.{standing_in, trees_of, numbered}
+use Rattle.relation_regions.specs.Reading.{standing_in, trees_of}
 use Rattle.relation_regions.specs.Worlds.{static}
 use Rattle.relation_regions.proofs.NumbersFound.{stands_more}
 use Rattle.relation_regions.proofs.reading.standings_of.Goals as goal
