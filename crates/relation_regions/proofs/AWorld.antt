@@ -21,14 +21,13 @@ use Rattle.relation_regions.specs.Standings.{is_given, is_beyond, standing_of, I
 use Rattle.relation_regions.proofs.Forcing.{beyond_node}
 use Rattle.relation_regions.specs.Worlds.{static, FactsSay, itself as said_itself, CannotName}
 use Rattle.relation_regions.specs.Worlds.{IsGiven, IsWorld, IsSolution}
-use Rattle.relation_regions.specs.Reading.{standing_in, numbered, no_constraint, IsPair, IsPairAt}
+use Rattle.relation_regions.specs.Reading.{standing_in, numbered, no_constraint, IsPair, IsPairAt, IsProblem}
 use Rattle.relation_regions.proofs.Forms.{variable_or_not, own_value, given_of_none, unnamable_beyond}
 use Rattle.relation_regions.proofs.FreeRegions.{values_from, values_assign, values_meet, region_value}
 use Rattle.relation_regions.proofs.Generated.{generated, pair_outlives, AreRelated, outlives_related, contains_below, from_below}
 use Rattle.relation_regions.proofs.InWorlds.{SpeaksOfGiven}
 use Rattle.relation_regions.proofs.Numbers.{fact_asks, standings_each, standing_at, region_at}
 use Rattle.relation_regions.proofs.Numbers.{one_number, number_of, known_said}
-use Rattle.relation_regions.proofs.Problem.{IsProblem}
 
 -- The number in a region parameter.
 abbrev pub atom_index : Atom → ℕ

@@ -1,5 +1,5 @@
 -- What is solved of a problem is so of the regions of the context.
-use Rattle.std.proofs.Common.{◌≡◌, ℕ, ◌<◌, ◌≤◌, ◌^◌, List, [], ◌∷◌, length, get_or, sym, ◌∙◌, refl, subst, arith, All, map}
+use Rattle.std.proofs.Common.{◌≡◌, ℕ, ◌<◌, ◌≤◌, ◌^◌, List, [], ◌∷◌, length, get_or, sym, ◌∙◌, subst, arith, All}
 use Rattle.std.proofs.Common.{Result, Ok, Err, IfOk}
 use Rattle.std.specs.Prelude.{IsPermutation}
 use Rattle.std.proofs.lemmas.List.{get_or_default, get_or-map, length-map}
@@ -11,7 +11,7 @@ use Rattle.relation_terms.specs.Heads.{region_var}
 use Rattle.relation_terms.specs.Trees.{Tree}
 use Rattle.relation_semantics.specs.Contexts.{Context}
 use Rattle.relation_semantics.specs.ContextCalls.{IsNotVariable}
-use Rattle.relation_semantics.specs.Stores.{Store, IsRegionIn, IsTermIn, InContext, IsSound}
+use Rattle.relation_semantics.specs.Stores.{IsRegionIn, IsSound}
 use Rattle.relation_regions.specs.declared.building.Pairs.{Pairs}
 use Rattle.relation_regions.specs.declared.standing.Standing.{Standing}
 use Rattle.relation_regions.specs.declared.decide.Decision.{Decision}
@@ -21,9 +21,8 @@ use Rattle.relation_regions.specs.declared.solving.Solved.TheVariants.{Met, Unme
 use Rattle.relation_regions.specs.Demands.{Meets, Refutes}
 use Rattle.relation_regions.specs.Demands as demand
 use Rattle.std.specs.Global.{Vec}
-use Rattle.relation_regions.specs.Worlds.{static}
 use Rattle.relation_regions.specs.Numbering.{AreBelow}
-use Rattle.relation_regions.specs.Reading.{numbered, trees_of, AreNumbered}
+use Rattle.relation_regions.specs.Reading.{numbered, trees_of, IsProblem}
 use Rattle.relation_regions.specs.Numbered.{AreWithin, IsAnswer}
 use Rattle.relation_regions.specs.Solutions.{AreLeast, IsUnmetBy}
 use Rattle.relation_regions.specs.Solving.{IsFactIn, region_pair, region_pairs, IfMet, IfValued, IfUnmet, IsAnswered}
@@ -31,24 +30,6 @@ use Rattle.relation_regions.proofs.Decided.{has_solution, are_least, is_unmet}
 use Rattle.relation_regions.proofs.InWorlds.{SpeaksOfGiven}
 use Rattle.relation_regions.proofs.RegionNumbers.{region_known}
 use Rattle.relation_regions.proofs.Numbers.{standings_each, asked_pairs, known_pairs}
-use Rattle.relation_regions.proofs.Problem.{IsProblem}
-
--- The region 'static is every context's.
-pub static_in : (st : Store) (t : Tree) → t ≡ static → IsRegionIn st t
-unfolding IsTermIn InContext
-static_in st t e = subst (λ u. IsRegionIn st u) (sym e) (tt, (tt, tt, tt))
-
--- No regions have numbers.
-pub none_numbered : {Key : Type 0} (tree : RegionKey Key → Tree) (st : Store) (keys : List (RegionKey Key))
-    (standings : List Standing) → keys ≡ [] → standings ≡ [] → AreNumbered st (map tree keys) standings
-none_numbered tree st keys standings e f =
-    let none : AreNumbered st [] [] = record {
-      regions = λ i d lt. absurd (omega (arith, lt));
-      stand = refl;
-      distinct = λ i j lt. absurd (omega (arith, lt));
-      fits = omega arith;
-    } in
-    subst (λ k. AreNumbered st (map tree k) standings) (sym e) (subst (λ s. AreNumbered st [] s) (sym f) none)
 
 -- What is so of the trees of all pairs.
 pub facts_speak : {Key Id Name : Type 0} (c : Context Key Id Name)
@@ -105,16 +86,14 @@ pub places_below : (asked : Pairs) (said by : List ℕ) → length said ≡ leng
 places_below asked said by e all i d lt = subst (λ n. get_or by i d < n) (sym e) (all i d lt)
 
 -- What was decided, where it is known what.
-pub met_of : (standings s : List Standing) (asked known : Pairs) (d : Decision) (values : Vec (ℕ × ℕ)) →
-    s ≡ standings → d ≡ decision.Met values → demand.IfMet s asked known d → Meets standings asked known values.items
-met_of standings s asked known d values e is h =
-    subst (λ u. Meets u asked known values.items) e (subst (λ u. demand.IfMet s asked known u) is h)
+pub met_of : (standings : List Standing) (asked known : Pairs) (d : Decision) (values : Vec (ℕ × ℕ)) →
+    d ≡ decision.Met values → demand.IfMet standings asked known d → Meets standings asked known values.items
+met_of standings asked known d values is h = subst (λ u. demand.IfMet standings asked known u) is h
 
-pub unmet_of : (standings s : List Standing) (asked known : Pairs) (d : Decision) (longer shorter : ℕ) (by : Vec ℕ) →
-    s ≡ standings → d ≡ decision.Unmet longer shorter by → demand.IfUnmet s asked known d →
+pub unmet_of : (standings : List Standing) (asked known : Pairs) (d : Decision) (longer shorter : ℕ) (by : Vec ℕ) →
+    d ≡ decision.Unmet longer shorter by → demand.IfUnmet standings asked known d →
     Refutes standings asked known longer shorter by.items
-unmet_of standings s asked known d longer shorter by e is h =
-    subst (λ u. Refutes u asked known longer shorter by.items) e (subst (λ u. demand.IfUnmet s asked known u) is h)
+unmet_of standings asked known d longer shorter by is h = subst (λ u. demand.IfUnmet standings asked known u) is h
 
 -- Values in another order.
 pub meets_sorted : (standings : List Standing) (asked known : Pairs) (values values' : List (ℕ × ℕ)) →

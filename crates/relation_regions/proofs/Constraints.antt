@@ -1,6 +1,6 @@
--- Constraints on keys, and what they ask for.
+-- Constraints on keys, and what they ask for, however these are read.
 use Rattle.std.proofs.Common.{◌≡◌, ℕ, ◌<◌, ◌+◌, ◌⊎◌, inl, inr, List, [], ◌∷◌, ◌++◌, length, get_or, subst, sym, ◌∙◌, ap}
-use Rattle.std.proofs.Common.{refl, map, Result, Ok, Err, OnOk}
+use Rattle.std.proofs.Common.{Bool, refl, map, Result, Ok, Err, OnOk}
 use Rattle.std.proofs.lemmas.List.{get_or-map, length-map}
 use Rattle.std.proofs.lemmas.Result.{on_ok_weaker}
 use Rattle.relation_terms.specs.declared.terms.keys.RegionKey.{RegionKey}
@@ -11,17 +11,13 @@ use Rattle.relation_terms.specs.declared.terms.generic_arg.GenericArgKind.{Gener
 use Rattle.relation_terms.specs.declared.predicate.regions.RegionConstraint.{RegionConstraint}
 use Rattle.relation_terms.specs.declared.predicate.regions.RegionConstraint.TheVariants.{Outlives, Eq}
 use Rattle.relation_terms.specs.declared.predicate.regions.OutlivesPredicate.{OutlivesPredicate}
-use Rattle.relation_terms.specs.Meaning.{Meaning}
 use Rattle.relation_terms.specs.Trees.{Tree}
-use Rattle.relation_semantics.specs.Stores.{Constraint, ConstraintIn, IsRegionIn, outlives_constraint, equal_constraint}
-use Rattle.relation_semantics.specs.Contexts.{Context, HasRegion}
-use Rattle.relation_semantics.specs.Constraints.{constraint_of}
+use Rattle.relation_semantics.specs.Stores.{Constraint, ConstraintIn, outlives_constraint, equal_constraint}
 use Rattle.relation_regions.specs.declared.building.Pairs.{Pairs}
-use Rattle.relation_regions.specs.declared.standing.Standing.{Standing}
 use Rattle.relation_regions.specs.Worlds.{IsOf}
-use Rattle.relation_regions.specs.Reading.{AddsPair, AddsAsked, AreNone, GrowsBy, IsOfOne, no_constraint, stating, trees_of}
-use Rattle.relation_regions.specs.Reading.{HasNumbered, GetsNumber, ReadsPair, ReadsAsked, ReadsFirst}
-use Rattle.relation_regions.specs.Solving.{region_pair, region_pairs}
+use Rattle.relation_regions.specs.Reading.{AddsPair, AddsAsked, AreNone, GrowsBy, IsOfOne, no_constraint, stating}
+use Rattle.relation_regions.specs.Reading.{HaveNumbers, Reader, read_trees, GetsNumber, ReadsPair, ReadsConstraint}
+use Rattle.relation_regions.specs.Reading.{IsNumbered, PairIsRead, ConstraintIsRead, AreRead, PutsPair}
 use Rattle.relation_regions.proofs.ReadPairs.{grows_same, grows_through, none_read, read_more, more_of_one}
 
 -- The constraint that is read at a place is the one that was recorded there.
@@ -36,88 +32,80 @@ pub index_below : {Key : Type 0} (f : RegionConstraint Key → Constraint) (xs :
 index_below f xs qs i e lt = subst (λ l. i < length l) e (subst (λ n. i < n) (sym (length-map xs f)) lt)
 
 -- The same of facts.
-pub fact_at : {Key Id Name : Type 0} (m : Meaning Key Id Name) (facts : List (OutlivesPredicate Key (RegionKey Key)))
-    (i : ℕ) (f : OutlivesPredicate Key (RegionKey Key)) → i < length facts → f ≡ get_or facts i f →
-    stating (region_pair m f) ≡ get_or (map stating (region_pairs m facts)) i no_constraint
-fact_at m facts i f lt is =
-    let lt' : i < length (region_pairs m facts) = subst (λ n. i < n) (sym (length-map facts (region_pair m))) lt in
-    let p = region_pair m f in
-    ap (λ u. stating (region_pair m u)) is ∙ (ap stating (sym (get_or-map (region_pair m) facts i f p lt)) ∙
-    sym (get_or-map stating (region_pairs m facts) i p no_constraint lt'))
+module _ {Key : Type 0} (pair : OutlivesPredicate Key (RegionKey Key) → Tree × Tree)
+    (facts : List (OutlivesPredicate Key (RegionKey Key))) (i : ℕ) (lt : i < length facts) where
+  pub fact_at : (f : OutlivesPredicate Key (RegionKey Key)) → f ≡ get_or facts i f →
+      stating (pair f) ≡ get_or (map stating (map pair facts)) i no_constraint
+  fact_at f is =
+      let lt' : i < length (map pair facts) = subst (λ n. i < n) (sym (length-map facts pair)) lt in
+      let p = pair f in
+      ap (λ u. stating (pair u)) is ∙ (ap stating (sym (get_or-map pair facts i f p lt)) ∙
+      sym (get_or-map stating (map pair facts) i p no_constraint lt'))
 
-pub fact_below : {Key Id Name : Type 0} (m : Meaning Key Id Name) (facts : List (OutlivesPredicate Key (RegionKey Key)))
-    (i : ℕ) → i < length facts → i < length (map stating (region_pairs m facts))
-fact_below m facts i lt = subst (λ n. i < n) (sym (length-map (region_pairs m facts) stating))
-    (subst (λ n. i < n) (sym (length-map facts (region_pair m))) lt)
+  pub fact_below : i < length (map stating (map pair facts))
+  fact_below = subst (λ n. i < n) (sym (length-map (map pair facts) stating))
+      (subst (λ n. i < n) (sym (length-map facts pair)) lt)
 
-module _ {Key Id Name : Type 0} (c : Context Key Id Name) (q : RegionConstraint Key) where
-  -- A constraint that a region outlives another one, by its parts.
-  pub outlives_is : (o : OutlivesPredicate Key (GenericArgKind Key)) (u : GenericArgKind Key) → q ≡ Outlives o →
-      o.0 ≡ u → q ≡ Outlives (record { 0 = u; 1 = o.1 })
-  outlives_is o u e f = e ∙ ap (λ v. Outlives (record { 0 = v; 1 = o.1 })) f
-
-  -- The regions of a constraint of the context.
-  pub outlives_in : (a b : RegionKey Key) → ConstraintIn c.store (constraint_of c.meaning q) →
-      q ≡ Outlives (record { 0 = Lifetime a; 1 = b }) → HasRegion c a × HasRegion c b
-  outlives_in a b h e = subst (λ q. ConstraintIn c.store (constraint_of c.meaning q)) e h
-
-  pub equal_in : (a b : RegionKey Key) → ConstraintIn c.store (constraint_of c.meaning q) →
-      q ≡ Eq (record { 0 = a; 1 = b }) → HasRegion c a × HasRegion c b
-  equal_in a b h e = subst (λ q. ConstraintIn c.store (constraint_of c.meaning q)) e h
-
-  pub type_in : (k : TyKey Key) (b : RegionKey Key) → ConstraintIn c.store (constraint_of c.meaning q) →
-      q ≡ Outlives (record { 0 = Ty k; 1 = b }) → IsRegionIn c.store ((c.meaning).ty k)
-  type_in k b h e = (subst (λ q. ConstraintIn c.store (constraint_of c.meaning q)) e h).0
-
-  pub const_in : (k : ConstKey Key) (b : RegionKey Key) → ConstraintIn c.store (constraint_of c.meaning q) →
-      q ≡ Outlives (record { 0 = Const k; 1 = b }) → IsRegionIn c.store ((c.meaning).const_ k)
-  const_in k b h e = (subst (λ q. ConstraintIn c.store (constraint_of c.meaning q)) e h).0
+-- A constraint that a region outlives another one, by its parts.
+outlives_is : {Key : Type 0} (q : RegionConstraint Key) (o : OutlivesPredicate Key (GenericArgKind Key))
+    (u : GenericArgKind Key) → q ≡ Outlives o → o.0 ≡ u → q ≡ Outlives (record { 0 = u; 1 = o.1 })
+outlives_is q o u e f = e ∙ ap (λ v. Outlives (record { 0 = v; 1 = o.1 })) f
 
 -- A pair of regions is put behind the others, once both have numbers.
-pub pair_read : {Key Id Name F : Type 0} (c : Context Key Id Name) (r : Result (Unit {0}) F) (a b : RegionKey Key) (j : ℕ)
-    (k0 k1 k2 : List (RegionKey Key)) (s1 s2 : List Standing) (p : Pairs) (said : List ℕ) (q : Pairs) (said' : List ℕ)
-    (first second : ℕ) → GetsNumber c a k0 k1 s1 first → GetsNumber c b k1 k2 s2 second →
-    OnOk r (q.longer.items ≡ p.longer.items ++ first ∷ []) →
-    OnOk r (q.shorter.items ≡ p.shorter.items ++ second ∷ []) → OnOk r (said' ≡ said ++ j ∷ []) →
-    OnOk r (ReadsPair c a b j k0 p said k2 s2 q said')
-pair_read c (Ok u) a b j k0 k1 k2 s1 s2 p said q said' first second g h longer shorter says =
-    let x = (c.meaning).region a in
-    let y = (c.meaning).region b in
+both_numbered : {Key : Type 0} (eq : RegionKey Key → RegionKey Key → Bool) (a b : RegionKey Key) (j : ℕ)
+    (k0 k1 k2 : List (RegionKey Key)) (p : Pairs) (said : List ℕ) (q : Pairs) (said' : List ℕ) (first second : ℕ) →
+    GetsNumber eq a k0 k1 first → GetsNumber eq b k1 k2 second → PutsPair first second j p said q said' →
+    ReadsPair eq a b j k0 p said k2 q said'
+both_numbered eq a b j k0 k1 k2 p said q said' first second at_a at_b puts r numbers a_in b_in =
+    let g : IsNumbered r a k0 k1 first = at_a r numbers a_in in
+    let h : IsNumbered r b k1 k2 second = at_b r g.numbers b_in in
     record {
-      numbered = h.numbered;
-      more = grows_through (λ t. t ≡ x) (λ t. t ≡ y) (λ t. (t ≡ x) ⊎ (t ≡ y)) (trees_of c k0) (trees_of c k1)
-          (trees_of c k2) g.more h.more (λ t e. inl e) (λ t e. inr e);
+      numbers = h.numbers;
+      more = grows_through (λ t. t ≡ r.region a) (λ t. t ≡ r.region b) (λ t. (t ≡ r.region a) ⊎ (t ≡ r.region b))
+          (read_trees r k0) (read_trees r k1) (read_trees r k2) g.more h.more (λ t e. inl e) (λ t e. inr e);
       adds = record {
         first = first;
         second = second;
-        puts = record { longer_is = longer; shorter_is = shorter; said_is = says };
-        first_at = (h.more).kept first x g.number_is;
+        puts = puts;
+        first_at = (h.more).kept first (r.region a) g.number_is;
         second_at = h.number_is;
       };
     }
-pair_read c (Err f) a b j k0 k1 k2 s1 s2 p said q said' first second g h longer shorter says = tt
 
-module _ {Key Id Name : Type 0} (c : Context Key Id Name) (a b : RegionKey Key) (j : ℕ) (k0 k1 k2 : List (RegionKey Key))
-    (s1 s2 : List Standing) (p : Pairs) (said : List ℕ) (m : Pairs) (mid : List ℕ) (s : Pairs) (said' : List ℕ) where
+pub pair_read : {Key F : Type 0} (eq : RegionKey Key → RegionKey Key → Bool) (result : Result (Unit {0}) F)
+    (a b : RegionKey Key) (j : ℕ) (k0 k1 k2 : List (RegionKey Key)) (p : Pairs) (said : List ℕ) (q : Pairs)
+    (said' : List ℕ) (first second : ℕ) → GetsNumber eq a k0 k1 first → GetsNumber eq b k1 k2 second →
+    OnOk result (q.longer.items ≡ p.longer.items ++ first ∷ []) →
+    OnOk result (q.shorter.items ≡ p.shorter.items ++ second ∷ []) → OnOk result (said' ≡ said ++ j ∷ []) →
+    OnOk result (ReadsPair eq a b j k0 p said k2 q said')
+pair_read eq (Ok u) a b j k0 k1 k2 p said q said' first second at_a at_b longer shorter says =
+    both_numbered eq a b j k0 k1 k2 p said q said' first second at_a at_b
+    (record { longer_is = longer; shorter_is = shorter; said_is = says })
+pair_read eq (Err f) a b j k0 k1 k2 p said q said' first second at_a at_b longer shorter says = tt
+
+module _ {Key : Type 0} {eq : RegionKey Key → RegionKey Key → Bool} (r : Reader eq) (a b : RegionKey Key) (j : ℕ)
+    (k0 k1 k2 : List (RegionKey Key)) (p : Pairs) (said : List ℕ) (m : Pairs) (mid : List ℕ) (s : Pairs)
+    (said' : List ℕ) where
   abbrev x : Tree
-  x = (c.meaning).region a
+  x = r.region a
 
   abbrev y : Tree
-  y = (c.meaning).region b
+  y = r.region b
 
   -- What one pair says, and what two do.
-  pub pair_asked : ReadsPair c a b j k0 p said k2 s2 s said' → ReadsAsked c (outlives_constraint x y) j k0 p said k2 s2 s said'
-  pair_asked h = record { numbered = h.numbered; more = h.more; adds = h.adds }
+  pub pair_asked : PairIsRead r a b j k0 p said k2 s said' →
+      ConstraintIsRead r (outlives_constraint x y) j k0 p said k2 s said'
+  pair_asked h = record { numbers = h.numbers; more = h.more; adds = h.adds }
 
   swapped : (t : Tree) → (t ≡ y) ⊎ (t ≡ x) → (t ≡ x) ⊎ (t ≡ y)
   swapped t (inl e) = inr e
   swapped t (inr e) = inl e
 
-  both_asked : ReadsPair c a b j k0 p said k1 s1 m mid → ReadsPair c b a j k1 m mid k2 s2 s said' →
-      ReadsAsked c (equal_constraint x y) j k0 p said k2 s2 s said'
+  both_asked : PairIsRead r a b j k0 p said k1 m mid → PairIsRead r b a j k1 m mid k2 s said' →
+      ConstraintIsRead r (equal_constraint x y) j k0 p said k2 s said'
   both_asked g h =
       let first = g.adds in
-      let later : AddsPair (trees_of c k2) x y j p said m mid = record {
+      let later : AddsPair (read_trees r k2) x y j p said m mid = record {
         first = first.first;
         second = first.second;
         puts = first.puts;
@@ -125,50 +113,78 @@ module _ {Key Id Name : Type 0} (c : Context Key Id Name) (a b : RegionKey Key) 
         second_at = (h.more).kept first.second y first.second_at;
       } in
       record {
-        numbered = h.numbered;
+        numbers = h.numbers;
         more = grows_through (λ t. (t ≡ x) ⊎ (t ≡ y)) (λ t. (t ≡ y) ⊎ (t ≡ x)) (IsOf (equal_constraint x y))
-            (trees_of c k0) (trees_of c k1) (trees_of c k2) g.more h.more (λ t o. o) swapped;
+            (read_trees r k0) (read_trees r k1) (read_trees r k2) g.more h.more (λ t o. o) swapped;
         adds = (m, (mid, later, h.adds));
       }
 
-  module _ {F : Type 0} (r : Result (Unit {0}) F) (q : RegionConstraint Key) where
-    abbrev Reads : RegionConstraint Key → Type 0
-    Reads q = OnOk r (ReadsAsked c (constraint_of c.meaning q) j k0 p said k2 s2 s said')
+module _ {Key : Type 0} (eq : RegionKey Key → RegionKey Key → Bool) (q : RegionConstraint Key) (j : ℕ)
+    (k0 k1 k2 : List (RegionKey Key)) (p : Pairs) (said : List ℕ) (m : Pairs) (mid : List ℕ) (s : Pairs)
+    (said' : List ℕ) where
+  abbrev Reads : Type 0
+  Reads = ReadsConstraint eq q j k0 p said k2 s said'
 
-    pub outlives_read : q ≡ Outlives (record { 0 = Lifetime a; 1 = b }) →
-        OnOk r (ReadsPair c a b j k0 p said k2 s2 s said') → Reads q
-    outlives_read e h = subst Reads (sym e) (on_ok_weaker r pair_asked h)
+  one_read : (a b : RegionKey Key) → q ≡ Outlives (record { 0 = Lifetime a; 1 = b }) →
+      ReadsPair eq a b j k0 p said k2 s said' → Reads
+  one_read a b e h r numbers asked_in =
+      let is : r.asked q ≡ outlives_constraint (r.region a) (r.region b) = ap r.asked e ∙ r.of_outlives a b in
+      let both : ConstraintIn r.store (outlives_constraint (r.region a) (r.region b)) =
+      subst (ConstraintIn r.store) is asked_in in
+      subst (λ z. ConstraintIsRead r z j k0 p said k2 s said') (sym is)
+      (pair_asked r a b j k0 k1 k2 p said m mid s said' (h r numbers both.0 both.1))
 
-    pub equal_read : q ≡ Eq (record { 0 = a; 1 = b }) → ReadsPair c a b j k0 p said k1 s1 m mid →
-        OnOk r (ReadsPair c b a j k1 m mid k2 s2 s said') → Reads q
-    equal_read e g h = subst Reads (sym e) (on_ok_weaker r (both_asked g) h)
+  two_read : (a b : RegionKey Key) → q ≡ Eq (record { 0 = a; 1 = b }) → ReadsPair eq a b j k0 p said k1 m mid →
+      ReadsPair eq b a j k1 m mid k2 s said' → Reads
+  two_read a b e g h r numbers asked_in =
+      let is : r.asked q ≡ equal_constraint (r.region a) (r.region b) = ap r.asked e ∙ r.of_equal a b in
+      let both : ConstraintIn r.store (equal_constraint (r.region a) (r.region b)) =
+      subst (ConstraintIn r.store) is asked_in in
+      let first = g r numbers both.0 both.1 in
+      subst (λ z. ConstraintIsRead r z j k0 p said k2 s said') (sym is)
+      (both_asked r a b j k0 k1 k2 p said m mid s said' first (h r first.numbers both.1 both.0))
 
-module _ {Key Id Name : Type 0} (c : Context Key Id Name) (qs : List Constraint) (keys : List (RegionKey Key)) where
+  module _ {F : Type 0} (result : Result (Unit {0}) F) where
+    pub outlives_read : (o : OutlivesPredicate Key (GenericArgKind Key)) (a : RegionKey Key) → q ≡ Outlives o →
+        o.0 ≡ Lifetime a → OnOk result (ReadsPair eq a o.1 j k0 p said k2 s said') → OnOk result Reads
+    outlives_read o a e f h = on_ok_weaker result (one_read a o.1 (outlives_is q o (Lifetime a) e f)) h
+
+    pub equal_read : (a b : RegionKey Key) → q ≡ Eq (record { 0 = a; 1 = b }) →
+        ReadsPair eq a b j k0 p said k1 m mid → OnOk result (ReadsPair eq b a j k1 m mid k2 s said') → OnOk result Reads
+    equal_read a b e g h = on_ok_weaker result (two_read a b e g) h
+
+  -- A constraint on a type, or on a constant, is none of a context.
+  pub no_type_read : (o : OutlivesPredicate Key (GenericArgKind Key)) (k : TyKey Key) → q ≡ Outlives o → o.0 ≡ Ty k →
+      Reads
+  no_type_read o k e f r numbers asked_in = absurd (r.no_type k o.1
+      (subst (λ q. ConstraintIn r.store (r.asked q)) (outlives_is q o (Ty k) e f) asked_in))
+
+  pub no_const_read : (o : OutlivesPredicate Key (GenericArgKind Key)) (k : ConstKey Key) → q ≡ Outlives o →
+      o.0 ≡ Const k → Reads
+  no_const_read o k e f r numbers asked_in = absurd (r.no_const k o.1
+      (subst (λ q. ConstraintIn r.store (r.asked q)) (outlives_is q o (Const k) e f) asked_in))
+
+module _ {Key : Type 0} {eq : RegionKey Key → RegionKey Key → Bool} (r : Reader eq) (qs : List Constraint)
+    (keys : List (RegionKey Key)) where
   -- Nothing is read yet.
-  pub none_read_first : (standings : List Standing) (p : Pairs) (said : List ℕ) → HasNumbered c keys standings →
-      AreNone p said → ReadsFirst c qs 0 keys keys standings p said
-  none_read_first standings p said h none = record {
-    numbered = h;
-    more = grows_same (IsOfOne qs) (trees_of c keys) (trees_of c keys) refl;
-    read = none_read qs (trees_of c keys) p said none;
+  pub none_are_read : (p : Pairs) (said : List ℕ) → HaveNumbers r.store (read_trees r keys) → AreNone p said →
+      AreRead r qs 0 keys keys p said
+  none_are_read p said h none = record {
+    numbers = h;
+    more = grows_same (IsOfOne qs) (read_trees r keys) (read_trees r keys) refl;
+    read = none_read qs (read_trees r keys) p said none;
   }
 
   -- One more constraint is read.
-  pub reads_more : (j : ℕ) (q : Constraint) (k1 k2 : List (RegionKey Key)) (s1 s2 : List Standing) (p : Pairs) (said : List ℕ)
-      (p' : Pairs) (said' : List ℕ) → j < length qs → q ≡ get_or qs j no_constraint →
-      ReadsFirst c qs j keys k1 s1 p said → ReadsAsked c q j k1 p said k2 s2 p' said' →
-      ReadsFirst c qs (j + 1) keys k2 s2 p' said'
-  reads_more j q k1 k2 s1 s2 p said p' said' lt e h g =
-      let after = trees_of c k2 in
-      let more : GrowsBy (IsOf (get_or qs j no_constraint)) (trees_of c k1) after =
-      subst (λ q. GrowsBy (IsOf q) (trees_of c k1) after) e g.more in
+  pub more_are_read : (j : ℕ) (q : Constraint) (k1 k2 : List (RegionKey Key)) (p : Pairs) (said : List ℕ) (p' : Pairs)
+      (said' : List ℕ) → j < length qs → q ≡ get_or qs j no_constraint → AreRead r qs j keys k1 p said →
+      ConstraintIsRead r q j k1 p said k2 p' said' → AreRead r qs (j + 1) keys k2 p' said'
+  more_are_read j q k1 k2 p said p' said' lt e h g =
+      let after = read_trees r k2 in
+      let more : GrowsBy (IsOf (get_or qs j no_constraint)) (read_trees r k1) after =
+      subst (λ q. GrowsBy (IsOf q) (read_trees r k1) after) e g.more in
       record {
-        numbered = g.numbered;
+        numbers = g.numbers;
         more = more_of_one qs j lt h.more more;
         read = read_more qs j p said p' said' lt more h.read (subst (λ q. AddsAsked after q j p said p' said') e g.adds);
       }
-
-  -- All are read.
-  pub all_read : (n : ℕ) (k1 : List (RegionKey Key)) (s1 : List Standing) (p : Pairs) (said : List ℕ) → n ≡ length qs →
-      ReadsFirst c qs n keys k1 s1 p said → ReadsFirst c qs (length qs) keys k1 s1 p said
-  all_read n k1 s1 p said e h = subst (λ b. ReadsFirst c qs b keys k1 s1 p said) e h

@@ -12,7 +12,7 @@ use Rattle.relation_regions.specs.Demands.{IsDemanded, Meets, Refutes}
 use Rattle.relation_regions.specs.Standings.{is_given, Any, Among}
 use Rattle.relation_regions.specs.Worlds.{IsGiven, IsVariable}
 use Rattle.relation_regions.specs.Solutions.{HasSolution, AlwaysOutlives, AreLeast, IsUnmetBy}
-use Rattle.relation_regions.specs.Reading.{standing_in, numbered, no_constraint}
+use Rattle.relation_regions.specs.Reading.{standing_in, numbered, no_constraint, IsProblem}
 use Rattle.relation_regions.proofs.AWorld as world
 use Rattle.relation_regions.proofs.AWorld.{one_value, demanded, given_number, solution}
 use Rattle.relation_regions.proofs.Forms.{own_value, none_of_given, variable_of_other}
@@ -20,7 +20,6 @@ use Rattle.relation_regions.proofs.Generated.{contains_map, from_map}
 use Rattle.relation_regions.proofs.InWorlds.{SpeaksOfGiven, demanded_holds}
 use Rattle.relation_regions.proofs.Numbers.{standings_each, standing_at, region_at, mentioned_at}
 use Rattle.relation_regions.proofs.Numbers.{number_of, said_known}
-use Rattle.relation_regions.proofs.Problem.{IsProblem}
 
 module _ {facts : List (Tree × Tree)} {st : Store} {trees : List Tree} {standings : List Standing} {asked : Pairs}
     {said : List ℕ} {known : Pairs} (problem : IsProblem facts st trees standings asked said known)

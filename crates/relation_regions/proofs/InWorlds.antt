@@ -13,10 +13,9 @@ use Rattle.relation_regions.specs.Demands.{IsDemanded, by_asked, by_known, from_
 use Rattle.relation_regions.specs.Standings.{is_beyond, standing_of, IsBeyond}
 use Rattle.relation_regions.proofs.Forcing.{beyond_in, beyond_node}
 use Rattle.relation_regions.specs.Worlds.{static, IsWorld, CannotName}
-use Rattle.relation_regions.specs.Reading.{standing_in, numbered, no_constraint, IsPair}
+use Rattle.relation_regions.specs.Reading.{standing_in, numbered, no_constraint, IsPair, IsProblem}
 use Rattle.relation_regions.proofs.Forms.{own_value, beyond_unnamed, variable_made}
 use Rattle.relation_regions.proofs.Numbers.{fact_asked, standings_each, standing_at, region_at, mentioned_at}
-use Rattle.relation_regions.proofs.Problem.{IsProblem}
 
 -- A fact is of no variables.
 abbrev pub SpeaksOfGiven : Tree × Tree → Type 0

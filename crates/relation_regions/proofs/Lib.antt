@@ -18,9 +18,9 @@ pub mod FreeRegions
 pub mod Generated
 pub mod InWorlds
 pub mod RegionNumbers
-pub mod Problem
 pub mod Numbers
 pub mod ReadPairs
+pub mod ReadProblems
 pub mod Sorts
 pub mod Universes
 pub mod AskedRegions

@@ -13,7 +13,7 @@ use Rattle.relation_regions.specs.Standings.{standing_of}
 use Rattle.relation_regions.specs.Worlds.{static, IsOf, IsMentioned, is_static, by_constraint, by_fact, FactsSay, stated}
 use Rattle.relation_regions.specs.Worlds.{from_static, itself, through}
 use Rattle.relation_regions.specs.Reading.{standing_in, numbered, IsPair, no_constraint, Asks, stating, IsPairAt, HaveRead}
-use Rattle.relation_regions.proofs.Problem.{IsProblem}
+use Rattle.relation_regions.specs.Reading.{IsProblem}
 
 -- What is read is pairs of numbers that there are.
 pub read_pairs : (qs : List Constraint) (bound : ℕ) (trees : List Tree) (p : Pairs) (said : List ℕ) →

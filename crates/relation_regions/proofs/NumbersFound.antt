@@ -1,6 +1,7 @@
 -- Which number a region gets.
-use Rattle.std.proofs.Common.{◌≡◌, ℕ, ◌<◌, ◌≤◌, ◌+◌, ◌^◌, List, [], ◌∷◌, ◌++◌, length, get_or, ap, refl, subst, arith}
+use Rattle.std.proofs.Common.{◌≡◌, ℕ, ◌<◌, ◌+◌, ◌^◌, List, [], ◌∷◌, ◌++◌, length, get_or, ap, subst, arith}
 use Rattle.std.proofs.Common.{◌⊎◌, inl, inr, Bool, IsTrue, ◌∙◌, sym, map, take}
+use Rattle.std.proofs.lemmas.Bool.{cases_lt}
 use Rattle.std.proofs.lemmas.List.{get_or_append_left, get_or-map, map_push, take_more}
 use Rattle.node_table.specs.Finding.{HasAt}
 use Rattle.relation_terms.specs.declared.terms.keys.RegionKey.{RegionKey}
@@ -8,38 +9,46 @@ use Rattle.relation_regions.specs.declared.standing.Standing.{Standing}
 use Rattle.relation_regions.proofs.Columns.{length_more}
 use Rattle.relation_terms.specs.declared.predicate.regions.OutlivesPredicate.{OutlivesPredicate}
 use Rattle.relation_terms.specs.Trees.{Tree}
+use Rattle.relation_semantics.specs.Stores.{Store}
 use Rattle.relation_regions.specs.Worlds.{static}
-use Rattle.relation_regions.specs.Numbering.{AddsRegion, same, put_last, IsRegionAt, regions_at, AreRegionsOf}
+use Rattle.relation_regions.specs.Numbering.{IsRegionAt, regions_at, AreRegionsOf}
+use Rattle.relation_regions.specs.Reading.{standing_in, numbered}
 
-module _ {Key : Type 0} (eq : RegionKey Key → RegionKey Key → Bool) (region : RegionKey Key) (standing : Standing)
-    (keys keys' : List (RegionKey Key)) (standings : List Standing) (number : ℕ)
-    (there : (i : ℕ) → HasAt eq keys region i → keys' ≡ keys) (has : HasAt eq keys' region number)
-    (added : (keys' ≡ keys) ⊎ (keys' ≡ keys ++ region ∷ [])) where
+-- Nothing changed, or a region that equals none was put behind those that there were. Each number has 32 bits.
+pub data AddsRegion {Key : Type 0} (eq : RegionKey Key → RegionKey Key → Bool) (region : RegionKey Key)
+    (keys keys' : List (RegionKey Key)) : Type 0 where
+  same : keys' ≡ keys → AddsRegion eq region keys keys'
+  put_last : ((i : ℕ) → HasAt eq keys region i → ⊥) → keys' ≡ keys ++ region ∷ [] → length keys < 2 ^ 32 →
+      AddsRegion eq region keys keys'
+
+module _ {Key : Type 0} (eq : RegionKey Key → RegionKey Key → Bool) (region : RegionKey Key)
+    (keys keys' : List (RegionKey Key)) (number : ℕ) (there : (i : ℕ) → HasAt eq keys region i → keys' ≡ keys)
+    (has : HasAt eq keys' region number) where
+  -- What was put at the end was not there.
+  lacked : keys' ≡ keys ++ region ∷ [] → (i : ℕ) → HasAt eq keys region i → ⊥
+  lacked e i old = absurd (omega (
+    arith,
+    ap (λ (l : List (RegionKey Key)). length l) (sym e ∙ there i old),
+    length_more keys region,
+  ))
+
   -- A number below the count is an old one.
-  pub old_number : number < length keys → AddsRegion eq region standing keys standings keys' standings
-  old_number lt = elim added [
-    | inl e ↦ same e refl
-    | inr e ↦
-        let old : HasAt eq keys region number = (
-          lt,
-          λ d. subst (λ x. IsTrue (eq x region))
-              (ap (λ l. get_or l number d) e ∙ get_or_append_left keys (region ∷ []) d number lt) (has.1 d),
-        ) in
-        same (there number old) refl
+  old_number : keys' ≡ keys ++ region ∷ [] → number < length keys → HasAt eq keys region number
+  old_number e lt = (
+    lt,
+    λ d. subst (λ x. IsTrue (eq x region))
+        (ap (λ l. get_or l number d) e ∙ get_or_append_left keys (region ∷ []) d number lt) (has.1 d),
+  )
+
+  below : keys' ≡ keys ++ region ∷ [] → number < 2 ^ 32 → length keys < 2 ^ 32
+  below e small = elim (cases_lt number (length keys)) [
+    | inl lt ↦ absurd (lacked e number (old_number e lt))
+    | inr le ↦ omega (arith, le, small)
   ]
 
-  -- Another one is new.
-  pub new_number : (standings' : List Standing) → length keys ≤ number → number < 2 ^ 32 →
-      standings' ≡ standings ++ standing ∷ [] →
-      AddsRegion eq region standing keys standings keys' standings'
-  new_number standings' le small is = elim added [
-    | inl e ↦ absurd (omega (arith, has.0, le, ap (λ (l : List (RegionKey Key)). length l) e))
-    | inr e ↦ put_last (λ i old. absurd (omega (
-      arith,
-      ap (λ (l : List (RegionKey Key)). length l) (sym e ∙ there i old),
-      length_more keys region,
-    ))) e is (omega (arith, le, small))
-  ]
+  pub adds_region : (keys' ≡ keys) ⊎ (keys' ≡ keys ++ region ∷ []) → number < 2 ^ 32 → AddsRegion eq region keys keys'
+  adds_region (inl e) small = same e
+  adds_region (inr e) small = put_last (lacked e) e (below e small)
 
 -- What is read at a number is its region.
 pub region_is : {Key : Type 0} (keys : List (RegionKey Key)) (number n : ℕ) (r : RegionKey Key) →
@@ -68,3 +77,12 @@ said_more said places i by by' v lt h e is =
     let f : ℕ → ℕ = λ k. get_or said k 0 in
     e ∙ (ap (λ l. l ++ v ∷ []) h ∙ (ap (λ u. map f (take i places) ++ u ∷ []) is ∙
     (sym (map_push f (take i places) (get_or places i 0)) ∙ sym (ap (map f) (take_more places i 0 lt)))))
+
+-- What one more region is.
+pub stands_more : (st : Store) (trees : List Tree) (i : ℕ) (s s' : List Standing) (v : Standing) (t : Tree) →
+    i < length trees → s ≡ map (standing_in st) (take i trees) → s' ≡ s ++ v ∷ [] → v ≡ standing_in st t →
+    t ≡ numbered trees i → s' ≡ map (standing_in st) (take (i + 1) trees)
+stands_more st trees i s s' v t lt h e is at =
+    let f : Tree → Standing = standing_in st in
+    e ∙ (ap (λ l. l ++ v ∷ []) h ∙ (ap (λ u. map f (take i trees) ++ u ∷ []) (is ∙ ap f at) ∙
+    (sym (map_push f (take i trees) (numbered trees i)) ∙ sym (ap (map f) (take_more trees i static lt)))))

@@ -3,7 +3,7 @@ use borrow.Author.Count.{below_more}
 use Rattle.std.proofs.Common.{◌≡◌, ℕ, ◌<◌, ◌+◌, List, [], ◌∷◌, ◌++◌, length, get_or, sym, ◌∙◌, ap, refl, subst, arith}
 use Rattle.std.proofs.Common.{inl, inr, map}
 use Rattle.std.specs.List.{Contains}
-use Rattle.std.proofs.lemmas.List.{get_or_append_left, get_or_default, length-map}
+use Rattle.std.proofs.lemmas.List.{get_or_append_left, get_or_default}
 use Rattle.std.proofs.lemmas.List.Elements.{Contains-append_cases}
 use Rattle.relation_terms.specs.Trees.{Tree}
 use Rattle.relation_semantics.specs.Stores.{Store, Constraint, outlives_constraint, equal_constraint}
@@ -12,9 +12,8 @@ use Rattle.relation_regions.specs.declared.standing.Standing.{Standing}
 use Rattle.relation_regions.proofs.Columns.{length_more, column_kept, column_last}
 use Rattle.relation_regions.specs.Worlds.{static, IsOf, IsMentioned, is_static, by_constraint, by_fact}
 use Rattle.relation_regions.specs.Reading.{numbered, IsAt, AreNumbered, GrowsBy, IsOfOne, IsPair, no_constraint, Asks, stating}
-use Rattle.relation_regions.specs.Reading.{AddsPair, AddsAsked, AreNone, IsPairAt, IsAsked, HaveRead}
+use Rattle.relation_regions.specs.Reading.{AddsPair, AddsAsked, AreNone, IsPairAt, IsAsked, HaveRead, IsProblem}
 use Rattle.relation_regions.proofs.Generated.{from_map}
-use Rattle.relation_regions.proofs.Problem.{IsProblem}
 
 one_longer : (old new : List ℕ) (x : ℕ) → new ≡ old ++ x ∷ [] → length new ≡ length old + 1
 one_longer old new x is = ap (λ (l : List ℕ). length l) is ∙ length_more old x
@@ -247,12 +246,12 @@ module _ (facts : List (Tree × Tree)) (st : Store) (t0 t1 t2 t3 : List Tree) (e
 
   pub are_problem : (standings : List Standing) (asked : Pairs) (said : List ℕ) (known : Pairs) (numbers : List ℕ) →
       AreNumbered st t3 standings → HaveRead st.constraints (length st.constraints) t2 asked said →
-      HaveRead (map stating facts) (length (map stating facts)) t3 known numbers →
+      HaveRead (map stating facts) (length facts) t3 known numbers →
       IsProblem facts st t3 standings asked said known
   are_problem standings asked said known numbers h read stated = record {
     are_numbered = h;
     mentioned = λ i d lt. all_mentioned (get_or t3 i d) (i, lt, get_or_default t3 i (get_or t3 i d) d lt);
     static_first = third.kept 0 static (second.kept 0 static static_first);
     read = read_kept st.constraints (length st.constraints) asked said third read;
-    stated = (numbers, subst (λ b. HaveRead (map stating facts) b t3 known numbers) (length-map facts stating) stated);
+    stated = (numbers, stated);
   }

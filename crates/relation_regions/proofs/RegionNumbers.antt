@@ -1,6 +1,6 @@
 -- Regions that get numbers.
-use Rattle.std.proofs.Common.{◌≡◌, ℕ, ◌<◌, ◌≤◌, ◌+◌, List, [], ◌∷◌, ◌++◌, length, get_or, sym, ◌∙◌, ap, refl, subst, arith}
-use Rattle.std.proofs.Common.{inl, inr, Bool, IsTrue, true, ◌&&◌, All, map, Result, Ok, Err, IfOk, OnOk}
+use Rattle.std.proofs.Common.{◌≡◌, ℕ, ◌<◌, ◌≤◌, ◌+◌, ◌^◌, ◌⊎◌, List, [], ◌∷◌, ◌++◌, length, get_or, sym, ◌∙◌, ap, refl, subst, arith}
+use Rattle.std.proofs.Common.{inl, inr, Bool, IsTrue, true, ◌&&◌, All, map}
 use Rattle.std.proofs.lemmas.Bool.{cases_lt}
 use Rattle.std.proofs.lemmas.List.{get_or_append_left, get_or_push, get_or-map, length-map, map-append}
 use Rattle.std.proofs.lemmas.List.Elements.{All-push}
@@ -9,13 +9,11 @@ use Rattle.relation_terms.specs.declared.terms.keys.RegionKey.{RegionKey}
 use Rattle.relation_terms.specs.Heads.{variable, bound, placeholder, atom, unknown}
 use Rattle.relation_terms.specs.Trees.{Tree, leaf, node, bind, nil, cons, known, Leaves}
 use Rattle.relation_terms.specs.Interning.{AreEqualAsTrees}
-use Rattle.relation_semantics.specs.Contexts.{Context, HasRegion}
 use Rattle.relation_semantics.specs.Stores.{Store, IsRegionIn, IsTermIn, InContext, IsMadeLeaf}
-use Rattle.relation_regions.specs.declared.standing.Standing.{Standing}
 use Rattle.relation_regions.proofs.Columns.{length_more}
 use Rattle.relation_regions.specs.Worlds.{static}
-use Rattle.relation_regions.specs.Numbering.{AddsRegion, same, put_last}
-use Rattle.relation_regions.specs.Reading.{standing_in, numbered, IsAt, AreDistinct, AreNumbered, GrowsBy, HasNumbered}
+use Rattle.relation_regions.proofs.NumbersFound.{AddsRegion, same, put_last, adds_region}
+use Rattle.relation_regions.specs.Reading.{numbered, IsAt, AreDistinct, HaveNumbers, GrowsBy}
 use Rattle.relation_regions.specs.Reading.{GetsNumber}
 use Rattle.relation_regions.proofs.ReadPairs.{grows_same, grows_pushed}
 
@@ -91,49 +89,38 @@ module _ {Key : Type 0} (tree : RegionKey Key → Tree) (eq : RegionKey Key → 
             (region_known st (tree region) region_in)).1 (sym (at_key keys i d i_lt) ∙ e),
       )
 
-  module _ (standing : Standing) (stands : standing ≡ standing_in st (tree region)) (keys : List (RegionKey Key))
-      (standings : List Standing) (keys' : List (RegionKey Key)) (standings' : List Standing) where
+  module _ (keys keys' : List (RegionKey Key)) where
     pushed : keys' ≡ keys ++ region ∷ [] → map tree keys' ≡ map tree keys ++ tree region ∷ []
     pushed e = ap (map tree) e ∙ map-append tree keys (region ∷ [])
 
     -- One more region.
-    numbered_more : AreNumbered st (map tree keys) standings → AddsRegion eq region standing keys standings keys' standings' →
-        AreNumbered st (map tree keys') standings'
-    numbered_more h (same e f) =
-        subst (λ k. AreNumbered st (map tree k) standings') (sym e)
-        (subst (λ s. AreNumbered st (map tree keys) s) (sym f) h)
-    numbered_more h (put_last lacks e f small) =
+    numbers_more : HaveNumbers st (map tree keys) → AddsRegion eq region keys keys' → HaveNumbers st (map tree keys')
+    numbers_more h (same e) = subst (λ k. HaveNumbers st (map tree k)) (sym e) h
+    numbers_more h (put_last lacks e small) =
         let trees : List Tree = map tree keys in
         let t : Tree = tree region in
-        let new : AreNumbered st (trees ++ t ∷ []) (standings ++ standing ∷ []) = record {
+        let new : HaveNumbers st (trees ++ t ∷ []) = record {
           regions = All-push (IsRegionIn st) trees t h.regions region_in;
-          stand = ap (λ l. l ++ standing ∷ []) h.stand ∙ (ap (λ s. map (standing_in st) trees ++ s ∷ []) stands ∙
-              sym (map-append (standing_in st) trees (t ∷ [])));
           distinct = distinct_more trees t h.distinct (lacks_tree keys h.regions lacks);
           fits = omega (arith, length_more trees t, length-map keys tree, small);
         } in
-        subst (λ l. AreNumbered st l standings') (sym (pushed e))
-        (subst (λ s. AreNumbered st (trees ++ t ∷ []) s) (sym f) new)
+        subst (λ l. HaveNumbers st l) (sym (pushed e)) new
 
-    more_numbered : AddsRegion eq region standing keys standings keys' standings' →
-        GrowsBy (λ t. t ≡ tree region) (map tree keys) (map tree keys')
-    more_numbered (same e f) = grows_same (λ t. t ≡ tree region) (map tree keys) (map tree keys') (ap (map tree) e)
-    more_numbered (put_last lacks e f small) = subst (λ l. GrowsBy (λ t. t ≡ tree region) (map tree keys) l)
+    more_numbered : AddsRegion eq region keys keys' → GrowsBy (λ t. t ≡ tree region) (map tree keys) (map tree keys')
+    more_numbered (same e) = grows_same (λ t. t ≡ tree region) (map tree keys) (map tree keys') (ap (map tree) e)
+    more_numbered (put_last lacks e small) = subst (λ l. GrowsBy (λ t. t ≡ tree region) (map tree keys) l)
         (sym (pushed e)) (grows_pushed (map tree keys) (tree region))
 
--- The number that a region of a context gets has its tree.
-pub gets_number : {Key Id Name E : Type 0} (c : Context Key Id Name) (eq : RegionKey Key → RegionKey Key → Bool) →
-    AreEqualAsTrees (c.meaning).region eq → (region : RegionKey Key) → HasRegion c region → (standing : Standing) →
-    standing ≡ standing_in c.store ((c.meaning).region region) → (keys : List (RegionKey Key))
-    (standings : List Standing) (keys' : List (RegionKey Key)) (standings' : List Standing) (r : Result ℕ E) →
-    HasNumbered c keys standings → OnOk r (AddsRegion eq region standing keys standings keys' standings') →
-    IfOk r (HasAt eq keys' region) → IfOk r (GetsNumber c region keys keys' standings')
-gets_number c eq law region region_in standing stands keys standings keys' standings' (Ok i) h adds has =
-    let tree = (c.meaning).region in
-    let after = numbered_more tree eq law c.store region region_in standing stands keys standings keys' standings' h adds in
+-- The number that a region gets has its tree.
+pub gets_number : {Key : Type 0} (eq : RegionKey Key → RegionKey Key → Bool) (region : RegionKey Key)
+    (keys keys' : List (RegionKey Key)) (number : ℕ) → ((i : ℕ) → HasAt eq keys region i → keys' ≡ keys) →
+    HasAt eq keys' region number → (keys' ≡ keys) ⊎ (keys' ≡ keys ++ region ∷ []) → number < 2 ^ 32 →
+    GetsNumber eq region keys keys' number
+gets_number eq region keys keys' number there has added small r h region_in =
+    let adds = adds_region eq region keys keys' number there has added small in
+    let after = numbers_more r.region eq r.equal_as_trees r.store region region_in keys keys' h adds in
     record {
-      numbered = after;
-      more = more_numbered tree eq law c.store region region_in standing stands keys standings keys' standings' adds;
-      number_is = number_at tree eq law c.store region region_in keys' i after.regions has;
+      numbers = after;
+      more = more_numbered r.region eq r.equal_as_trees r.store region region_in keys keys' adds;
+      number_is = number_at r.region eq r.equal_as_trees r.store region region_in keys' number after.regions has;
     }
-gets_number c eq law region region_in standing stands keys standings keys' standings' (Err e) h adds has = tt

@@ -1,21 +1,9 @@
--- How the regions that have numbers grow, and which number has which.
-use Rattle.std.specs.Prelude.{◌≡◌, ℕ, ◌<◌, ◌^◌, Bool, List, [], ◌∷◌, ◌++◌, length, map}
-use Rattle.node_table.specs.Finding.{HasAt}
+-- Which number has which region.
+use Rattle.std.specs.Prelude.{◌≡◌, ℕ, ◌<◌, List, map}
 use Rattle.relation_terms.specs.declared.predicate.regions.OutlivesPredicate.{OutlivesPredicate}
 use Rattle.relation_terms.specs.declared.terms.keys.RegionKey.{RegionKey}
 use Rattle.relation_terms.specs.Trees.{Tree}
-use Rattle.relation_regions.specs.declared.standing.Standing.{Standing}
 use Rattle.relation_regions.specs.Reading.{numbered}
-
--- Nothing changed, or a region that equals none was put behind those that there were, with what it is. Each number has
--- 32 bits.
-pub data AddsRegion {Key : Type 0} (eq : RegionKey Key → RegionKey Key → Bool) (region : RegionKey Key) (standing : Standing)
-    (keys : List (RegionKey Key)) (standings : List Standing) (keys' : List (RegionKey Key))
-    (standings' : List Standing) : Type 0 where
-  same : keys' ≡ keys → standings' ≡ standings → AddsRegion eq region standing keys standings keys' standings'
-  put_last : ((i : ℕ) → HasAt eq keys region i → ⊥) → keys' ≡ keys ++ region ∷ [] →
-      standings' ≡ standings ++ standing ∷ [] → length keys < 2 ^ 32 →
-      AddsRegion eq region standing keys standings keys' standings'
 
 -- A region has a number, whatever trees regions mean.
 abbrev pub IsRegionAt : {Key : Type 0} → List (RegionKey Key) → ℕ → RegionKey Key → Type 0

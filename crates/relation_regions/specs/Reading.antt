@@ -1,14 +1,22 @@
 -- Regions of a context that have numbers, and pairs of numbers that say what constraints do.
-use Rattle.std.specs.Prelude.{◌≡◌, ◌⊎◌, ℕ, ◌<◌, ◌≤◌, ◌^◌, List, [], ◌∷◌, ◌++◌, All, length, get_or, map, Contains}
+use Rattle.std.specs.Prelude.{◌≡◌, ◌⊎◌, ℕ, Bool, ◌<◌, ◌≤◌, ◌^◌, List, [], ◌∷◌, ◌++◌, All, length, get_or, map, Contains}
 use Rattle.relation_terms.specs.Heads.{region_var, Leaf, variable, bound, placeholder, atom, unknown}
 use Rattle.relation_terms.specs.Trees.{Tree, leaf, node, bind, nil, cons}
+use Rattle.relation_terms.specs.Interning.{AreEqualAsTrees}
+use Rattle.relation_terms.specs.declared.predicate.regions.OutlivesPredicate.{OutlivesPredicate}
+use Rattle.relation_terms.specs.declared.predicate.regions.RegionConstraint.{RegionConstraint}
+use Rattle.relation_terms.specs.declared.predicate.regions.RegionConstraint.TheVariants.{Outlives, Eq}
+use Rattle.relation_terms.specs.declared.terms.generic_arg.GenericArgKind.TheVariants.{Lifetime, Ty, Const}
+use Rattle.relation_terms.specs.declared.terms.keys.ConstKey.{ConstKey}
 use Rattle.relation_terms.specs.declared.terms.keys.RegionKey.{RegionKey}
+use Rattle.relation_terms.specs.declared.terms.keys.TyKey.{TyKey}
 use Rattle.relation_semantics.specs.Contexts.{Context}
 use Rattle.relation_semantics.specs.Stores.{Store, universe_of, Constraint, outlives_constraint, equal_constraint, IsRegionIn}
+use Rattle.relation_semantics.specs.Stores.{ConstraintIn}
 use Rattle.relation_regions.specs.declared.building.Pairs.{Pairs}
 use Rattle.relation_regions.specs.declared.standing.Standing.{Standing}
 use Rattle.relation_regions.specs.declared.standing.Standing.TheVariants.{Named, Placeholder, Variable}
-use Rattle.relation_regions.specs.Worlds.{static, IsOf}
+use Rattle.relation_regions.specs.Worlds.{static, IsOf, IsMentioned}
 
 -- What a region is, as far as it counts for what it may outlive.
 abbrev pub leaf_standing : Store → Leaf → Standing
@@ -37,7 +45,13 @@ IsAt trees i t = (i < length trees) × (numbered trees i ≡ t)
 abbrev pub AreDistinct : List Tree → Type 0
 AreDistinct trees = (i j : ℕ) → i < length trees → j < length trees → numbered trees i ≡ numbered trees j → i ≡ j
 
--- Regions of a context are numbered, by 32 bits and none twice, and it is known what each is.
+-- Regions of a context are numbered, by 32 bits and none twice.
+pub record HaveNumbers (st : Store) (trees : List Tree) : Type 0 where
+  pub regions : All (IsRegionIn st) trees
+  pub distinct : AreDistinct trees
+  pub fits : length trees ≤ 2 ^ 32
+
+-- The same, and it is known what each is.
 pub record AreNumbered (st : Store) (trees : List Tree) (standings : List Standing) : Type 0 where
   pub regions : All (IsRegionIn st) trees
   pub stand : standings ≡ map (standing_in st) trees
@@ -98,10 +112,9 @@ pub record AreNone (p : Pairs) (said : List ℕ) : Type 0 where
   pub none_said : said ≡ []
 
 -- No regions, and no pairs.
-pub record IsEmpty {Key : Type 0} (keys : List (RegionKey Key)) (standings : List Standing) (asked : Pairs)
-    (said : List ℕ) (known : Pairs) (numbers : List ℕ) : Type 0 where
+pub record IsEmpty {Key : Type 0} (keys : List (RegionKey Key)) (asked : Pairs) (said : List ℕ) (known : Pairs)
+    (numbers : List ℕ) : Type 0 where
   pub no_region : keys ≡ []
-  pub none_stands : standings ≡ []
   pub none_asked : AreNone asked said
   pub none_known : AreNone known numbers
 
@@ -125,44 +138,118 @@ pub record HaveRead (qs : List Constraint) (bound : ℕ) (trees : List Tree) (p 
   pub each : (k : ℕ) → k < length p.shorter.items → IsAsked qs trees p said k
   pub covered : (j : ℕ) → j < bound → (a b : Tree) → Asks qs j a b → (k : ℕ) × IsPairAt trees p k a b
 
--- The regions of a context that have numbers, as its keys have trees.
-module _ {Key Id Name : Type 0} (c : Context Key Id Name) where
-  abbrev pub trees_of : List (RegionKey Key) → List Tree
-  trees_of keys = map (c.meaning).region keys
+-- The pairs of constraints and of facts, over numbered regions, of which 'static is the first.
+pub record IsProblem (facts : List (Tree × Tree)) (st : Store) (trees : List Tree) (standings : List Standing)
+    (asked : Pairs) (said : List ℕ) (known : Pairs) : Type 0 where
+  pub are_numbered : AreNumbered st trees standings
+  pub mentioned : All (IsMentioned facts st) trees
+  pub static_first : IsAt trees 0 static
+  pub read : HaveRead st.constraints (length st.constraints) trees asked said
+  pub stated : (numbers : List ℕ) × HaveRead (map stating facts) (length facts) trees known numbers
 
-  abbrev pub HasNumbered : List (RegionKey Key) → List Standing → Type 0
-  HasNumbered keys standings = AreNumbered c.store (trees_of keys) standings
+-- The regions of keys, as a context's keys have trees.
+abbrev pub trees_of : {Key Id Name : Type 0} → Context Key Id Name → List (RegionKey Key) → List Tree
+trees_of c keys = map (c.meaning).region keys
 
-  abbrev pub HasNumber : List (RegionKey Key) → RegionKey Key → ℕ → Type 0
-  HasNumber keys r i = IsAt (trees_of keys) i ((c.meaning).region r)
+-- What keys and constraints on them are read as: regions, and what is asked of these. Keys of known regions are equal
+-- just where these are, and a constraint that is the context's is on regions.
+pub record Reader {Key : Type 0} (eq : RegionKey Key → RegionKey Key → Bool) : Type 0 where
+  pub store : Store
+  pub region : RegionKey Key → Tree
+  pub asked : RegionConstraint Key → Constraint
+  pub equal_as_trees : AreEqualAsTrees region eq
+  pub of_outlives : (a b : RegionKey Key) →
+      asked (Outlives (record { 0 = Lifetime a; 1 = b })) ≡ outlives_constraint (region a) (region b)
+  pub of_equal : (a b : RegionKey Key) →
+      asked (Eq (record { 0 = a; 1 = b })) ≡ equal_constraint (region a) (region b)
+  pub no_type : (k : TyKey Key) (b : RegionKey Key) →
+      ConstraintIn store (asked (Outlives (record { 0 = Ty k; 1 = b }))) → ⊥
+  pub no_const : (k : ConstKey Key) (b : RegionKey Key) →
+      ConstraintIn store (asked (Outlives (record { 0 = Const k; 1 = b }))) → ⊥
 
-  abbrev pub NumbersMore : (Tree → Type 0) → List (RegionKey Key) → List (RegionKey Key) → Type 0
-  NumbersMore P keys keys' = GrowsBy P (trees_of keys) (trees_of keys')
+module _ {Key : Type 0} {eq : RegionKey Key → RegionKey Key → Bool} (r : Reader eq) where
+  -- The regions of keys.
+  abbrev pub read_trees : List (RegionKey Key) → List Tree
+  read_trees keys = map r.region keys
+
+  -- The regions of facts.
+  abbrev pub read_facts : List (OutlivesPredicate Key (RegionKey Key)) → List (Tree × Tree)
+  read_facts facts = map (λ f. (r.region f.0, r.region f.1)) facts
+
+  abbrev pub IsKeyIn : RegionKey Key → Type 0
+  IsKeyIn a = IsRegionIn r.store (r.region a)
+
+  abbrev pub IsFactOn : OutlivesPredicate Key (RegionKey Key) → Type 0
+  IsFactOn f = IsKeyIn f.0 × IsKeyIn f.1
+
+  abbrev pub IsAskedIn : RegionConstraint Key → Type 0
+  IsAskedIn q = ConstraintIn r.store (r.asked q)
 
   -- A region has this number: it had it, or got it.
-  pub record GetsNumber (r : RegionKey Key) (keys keys' : List (RegionKey Key)) (standings' : List Standing) (number : ℕ) :
-      Type 0 where
-    pub numbered : HasNumbered keys' standings'
-    pub more : NumbersMore (λ t. t ≡ (c.meaning).region r) keys keys'
-    pub number_is : HasNumber keys' r number
+  pub record IsNumbered (a : RegionKey Key) (keys keys' : List (RegionKey Key)) (number : ℕ) : Type 0 where
+    pub numbers : HaveNumbers r.store (read_trees keys')
+    pub more : GrowsBy (λ t. t ≡ r.region a) (read_trees keys) (read_trees keys')
+    pub number_is : IsAt (read_trees keys') number (r.region a)
 
   -- A pair of two regions was put behind the others.
-  pub record ReadsPair (a b : RegionKey Key) (j : ℕ) (keys : List (RegionKey Key)) (p : Pairs) (said : List ℕ)
-      (keys' : List (RegionKey Key)) (standings' : List Standing) (q : Pairs) (said' : List ℕ) : Type 0 where
-    pub numbered : HasNumbered keys' standings'
-    pub more : NumbersMore (λ t. (t ≡ (c.meaning).region a) ⊎ (t ≡ (c.meaning).region b)) keys keys'
-    pub adds : AddsPair (trees_of keys') ((c.meaning).region a) ((c.meaning).region b) j p said q said'
+  pub record PairIsRead (a b : RegionKey Key) (j : ℕ) (keys : List (RegionKey Key)) (p : Pairs) (said : List ℕ)
+      (keys' : List (RegionKey Key)) (q : Pairs) (said' : List ℕ) : Type 0 where
+    pub numbers : HaveNumbers r.store (read_trees keys')
+    pub more : GrowsBy (λ t. (t ≡ r.region a) ⊎ (t ≡ r.region b)) (read_trees keys) (read_trees keys')
+    pub adds : AddsPair (read_trees keys') (r.region a) (r.region b) j p said q said'
 
   -- What a constraint asks for was.
-  pub record ReadsAsked (asks : Constraint) (j : ℕ) (keys : List (RegionKey Key)) (p : Pairs) (said : List ℕ)
-      (keys' : List (RegionKey Key)) (standings' : List Standing) (q : Pairs) (said' : List ℕ) : Type 0 where
-    pub numbered : HasNumbered keys' standings'
-    pub more : NumbersMore (IsOf asks) keys keys'
-    pub adds : AddsAsked (trees_of keys') asks j p said q said'
+  pub record ConstraintIsRead (asks : Constraint) (j : ℕ) (keys : List (RegionKey Key)) (p : Pairs) (said : List ℕ)
+      (keys' : List (RegionKey Key)) (q : Pairs) (said' : List ℕ) : Type 0 where
+    pub numbers : HaveNumbers r.store (read_trees keys')
+    pub more : GrowsBy (IsOf asks) (read_trees keys) (read_trees keys')
+    pub adds : AddsAsked (read_trees keys') asks j p said q said'
 
   -- What the first constraints ask for was, and no other regions have got numbers.
-  pub record ReadsFirst (qs : List Constraint) (bound : ℕ) (keys keys' : List (RegionKey Key)) (standings' : List Standing)
-      (p : Pairs) (said : List ℕ) : Type 0 where
-    pub numbered : HasNumbered keys' standings'
-    pub more : NumbersMore (IsOfOne qs) keys keys'
-    pub read : HaveRead qs bound (trees_of keys') p said
+  pub record AreRead (qs : List Constraint) (bound : ℕ) (keys keys' : List (RegionKey Key)) (p : Pairs)
+      (said : List ℕ) : Type 0 where
+    pub numbers : HaveNumbers r.store (read_trees keys')
+    pub more : GrowsBy (IsOfOne qs) (read_trees keys) (read_trees keys')
+    pub read : HaveRead qs bound (read_trees keys') p said
+
+  -- These are the key of 'static, the constraints that were recorded, and facts on regions of the context.
+  pub record AreOf (re_static : RegionKey Key) (constraints : List (RegionConstraint Key))
+      (facts : List (OutlivesPredicate Key (RegionKey Key))) : Type 0 where
+    pub is_static : r.region re_static ≡ static
+    pub recorded : map r.asked constraints ≡ (r.store).constraints
+    pub constraints_in : All IsAskedIn constraints
+    pub facts_in : All IsFactOn facts
+
+-- The same, however keys are read.
+module _ {Key : Type 0} (eq : RegionKey Key → RegionKey Key → Bool) where
+  abbrev pub GetsNumber : RegionKey Key → List (RegionKey Key) → List (RegionKey Key) → ℕ → Type 0
+  GetsNumber a keys keys' number = (r : Reader eq) → HaveNumbers r.store (read_trees r keys) → IsKeyIn r a →
+      IsNumbered r a keys keys' number
+
+  abbrev pub ReadsPair : RegionKey Key → RegionKey Key → ℕ → List (RegionKey Key) → Pairs → List ℕ →
+      List (RegionKey Key) → Pairs → List ℕ → Type 0
+  ReadsPair a b j keys p said keys' q said' = (r : Reader eq) → HaveNumbers r.store (read_trees r keys) →
+      IsKeyIn r a → IsKeyIn r b → PairIsRead r a b j keys p said keys' q said'
+
+  abbrev pub ReadsConstraint : RegionConstraint Key → ℕ → List (RegionKey Key) → Pairs → List ℕ →
+      List (RegionKey Key) → Pairs → List ℕ → Type 0
+  ReadsConstraint asks j keys p said keys' q said' = (r : Reader eq) → HaveNumbers r.store (read_trees r keys) →
+      IsAskedIn r asks → ConstraintIsRead r (r.asked asks) j keys p said keys' q said'
+
+  abbrev pub ReadsConstraints : List (RegionConstraint Key) → ℕ → List (RegionKey Key) → List (RegionKey Key) → Pairs →
+      List ℕ → Type 0
+  ReadsConstraints constraints count keys keys' p said = (r : Reader eq) → HaveNumbers r.store (read_trees r keys) →
+      All (IsAskedIn r) constraints → AreRead r (map r.asked constraints) count keys keys' p said
+
+  abbrev pub ReadsFacts : List (OutlivesPredicate Key (RegionKey Key)) → ℕ → List (RegionKey Key) →
+      List (RegionKey Key) → Pairs → List ℕ → Type 0
+  ReadsFacts facts count keys keys' p said = (r : Reader eq) → HaveNumbers r.store (read_trees r keys) →
+      All (IsFactOn r) facts → AreRead r (map stating (read_facts r facts)) count keys keys' p said
+
+  -- Once it is known what each region is, the pairs are a problem.
+  abbrev pub ReadsProblem : RegionKey Key → List (RegionConstraint Key) → List (OutlivesPredicate Key (RegionKey Key)) →
+      List (RegionKey Key) → Pairs → List ℕ → Pairs → Type 0
+  ReadsProblem re_static constraints facts keys asked said known = (r : Reader eq) →
+      AreOf r re_static constraints facts → (standings : List Standing) →
+      standings ≡ map (standing_in r.store) (read_trees r keys) →
+      IsProblem (read_facts r facts) r.store (read_trees r keys) standings asked said known

@@ -1,16 +1,17 @@
 //! Solving: can the regions of a context be as it has recorded?
-ghost use Rattle.std.specs.Prelude.{◌≡◌, ◌<◌, All, length, get_or, map, IfOk};
+ghost use Rattle.std.specs.Prelude.{◌≡◌, ◌<◌, All, length, get_or, map, IfOk, OnOk};
 ghost use Rattle.relation_semantics.specs.Constraints.{constraint_of};
 ghost use Rattle.relation_semantics.specs.ContextCalls.{Grows, KeepsMarks};
 ghost use Rattle.relation_regions.specs.Worlds.{static};
-ghost use Rattle.relation_regions.specs.Reading.{IsEmpty};
+ghost use Rattle.relation_regions.specs.Reading.{IsEmpty, ReadsProblem};
 ghost use Rattle.relation_regions.specs.Numbered.{AreWithin, IsAnswer};
 ghost use Rattle.relation_regions.specs.Solving.{IsFactIn, IfMet, IfValued, IfUnmet, IsAnswered};
 
 use crate::building::Pairs;
 use crate::numbered::{self, Decision};
-use crate::numbering::Regions;
-use crate::reading::{NumberedPairs, number, read_constraints, read_facts};
+use crate::numbering::{number, region_at, regions_of};
+use crate::reading::{NumberedPairs, read_constraints, read_facts, standings_of};
+use crate::standing::Standing;
 use kept_records::RecordedRegions;
 use node_table::NodeTable;
 use relation_semantics::infer_ctxt::InferCtxtLike;
@@ -39,7 +40,7 @@ pub enum Solved<X: Copy> {
 /// Constraints and facts, as pairs of numbered regions.
 #[derive(Drop)]
 struct Problem<X: Eq + Hash> {
-    regions: Regions<X>,
+    regions: NodeTable<RegionKey<X>>,
     asked: NumberedPairs,
     known: NumberedPairs,
 }
@@ -47,14 +48,11 @@ struct Problem<X: Eq + Hash> {
 impl<X: Copy + Eq + Hash> Problem<X> {
     // No regions, and no pairs.
     fn new(alloc: Global) -> Self
-        ensures { let p = result in IsEmpty p.regions.table p.regions.standings.items p.asked.pairs
-            p.asked.asked_by.items p.known.pairs p.known.asked_by.items }
+        ensures { let p = result in IsEmpty p.regions p.asked.pairs p.asked.asked_by.items p.known.pairs
+            p.known.asked_by.items }
     {
         Problem {
-            regions: Regions {
-                table: NodeTable::new(alloc),
-                standings: Vec::new(alloc),
-            },
+            regions: NodeTable::new(alloc),
             asked: NumberedPairs {
                 pairs: Pairs::new(alloc),
                 asked_by: Vec::new(alloc),
@@ -87,19 +85,19 @@ fn asked_by(
 fn answer<X: Copy + Eq + Hash>(
     alloc: Global,
     problem: &Problem<X>,
+    standings: &[Standing],
 ) -> Result<Solved<X>, OutOfMemory>
-    requires { let p = problem.now in AreWithin p.regions.table p.regions.standings.items p.asked.pairs
-        p.asked.asked_by.items p.known.pairs }
-    ensures { let p = problem.now in IfOk result (IsAnswer p.regions.table p.regions.standings.items p.asked.pairs
-        p.asked.asked_by.items p.known.pairs) }
+    requires { let p = problem.now in
+        AreWithin p.regions standings.now p.asked.pairs p.asked.asked_by.items p.known.pairs }
+    ensures { let p = problem.now in IfOk result
+        (IsAnswer p.regions standings.now p.asked.pairs p.asked.asked_by.items p.known.pairs) }
 {
-    let standings = problem.regions.standings.as_slice();
     match numbered::solve(alloc, standings, &problem.asked.pairs, &problem.known.pairs)? {
         Decision::Met(values) => {
             // So that those of one variable stand together.
             let mut values = values;
             values.sort_unstable();
-            let values = problem.regions.regions_of(alloc, values.as_slice())?;
+            let values = regions_of(alloc, &problem.regions, values.as_slice())?;
             Ok(Solved::Met(values))
         }
         Decision::Unmet {
@@ -108,8 +106,8 @@ fn answer<X: Copy + Eq + Hash>(
             by,
         } => {
             let by = asked_by(alloc, &problem.asked, by.as_slice())?;
-            let longer = problem.regions.region(longer);
-            let shorter = problem.regions.region(shorter);
+            let longer = region_at(&problem.regions, longer);
+            let shorter = region_at(&problem.regions, shorter);
             Ok(Solved::Unmet {
                 longer,
                 shorter,
@@ -119,7 +117,24 @@ fn answer<X: Copy + Eq + Hash>(
     }
 }
 
-// The constraints of a context, and facts, are read, and solved. The region 'static gets the number 0.
+// Constraints and facts are read. The region 'static gets the number 0.
+fn read_problem<X: Copy + Eq + Hash>(
+    problem: &mut Problem<X>,
+    re_static: RegionKey<X>,
+    constraints: &[RegionConstraint<X>],
+    facts: &[RegionOutlivesPredicate<X>],
+) -> Result<(), OutOfMemory>
+    requires { let p = problem.old in IsEmpty p.regions p.asked.pairs p.asked.asked_by.items p.known.pairs
+        p.known.asked_by.items }
+    ensures { let p = problem.new in OnOk result (ReadsProblem (λ k l. X.eq k.0 l.0) re_static constraints.now facts.now
+        p.regions p.asked.pairs p.asked.asked_by.items p.known.pairs) }
+{
+    number(&mut problem.regions, re_static)?;
+    read_constraints(&mut problem.regions, &mut problem.asked, constraints)?;
+    read_facts(&mut problem.regions, &mut problem.known, facts)
+}
+
+// The constraints of a context, and facts, are read, and solved.
 fn solve_problem<C: InferCtxtLike>(
     ctx: &C,
     problem: &mut Problem<<C::Interner as Keys>::Key>,
@@ -132,14 +147,13 @@ fn solve_problem<C: InferCtxtLike>(
     requires constraints { let c = C.state ctx.now in
         map (constraint_of c.meaning) constraints.now ≡ (c.store).constraints }
     requires facts_in { All (IsFactIn (C.state ctx.now)) facts.now }
-    requires empty { let p = problem.old in IsEmpty p.regions.table p.regions.standings.items p.asked.pairs
-        p.asked.asked_by.items p.known.pairs p.known.asked_by.items }
+    requires empty { let p = problem.old in IsEmpty p.regions p.asked.pairs p.asked.asked_by.items p.known.pairs
+        p.known.asked_by.items }
     ensures { IfOk result (IsAnswered (C.state ctx.now) facts.now) }
 {
-    number(ctx, &mut problem.regions, re_static)?;
-    read_constraints(ctx, &mut problem.regions, &mut problem.asked, constraints)?;
-    read_facts(ctx, &mut problem.regions, &mut problem.known, facts)?;
-    answer(ctx.cx().alloc(), &*problem)
+    read_problem(problem, re_static, constraints, facts)?;
+    let standings = standings_of(ctx, &problem.regions)?;
+    answer(ctx.cx().alloc(), &*problem, standings.as_slice())
 }
 
 // The region 'static. Nothing is recorded.

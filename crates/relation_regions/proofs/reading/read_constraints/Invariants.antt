@@ -1,8 +1,7 @@
 -- The constraints below the counter are read.
-use Rattle.relation_regions.specs.Reading.{ReadsFirst}
+use Rattle.relation_regions.specs.Reading.{ReadsConstraints}
 use Rattle.relation_regions.proofs.reading.read_constraints.Given as goal
 
 abbrev pub invariant-loop-index : goal.invariant-loop-index
-invariant-loop-index g l =
-    ReadsFirst (g.C.InferCtxtLike.state l.ctx) ((g.C.InferCtxtLike.state l.ctx).store).constraints l.index
-    l.fn.regions.table l.regions.table l.regions.standings.items l.pairs.pairs l.pairs.asked_by.items
+invariant-loop-index g l = ReadsConstraints (λ a b. g.X.PartialEq.eq a.0 b.0) l.constraints l.index l.fn.table l.table
+    l.pairs.pairs l.pairs.asked_by.items

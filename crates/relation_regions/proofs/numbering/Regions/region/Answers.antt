@@ -1,8 +1,0 @@
--- What is read at a number is its region.
-use Rattle.std.proofs.Common.{refl}
-use Rattle.relation_regions.proofs.NumbersFound.{region_is}
-use Rattle.relation_regions.proofs.numbering.Regions.region.Goals as goal
-
-pub returns : goal.returns
-returns g c = region_is c.args.self.now.table c.args.number c.args.number c.node.result.now c.requires.below refl
-    c.node.ensures
