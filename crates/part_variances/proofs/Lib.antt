@@ -1,4 +1,4 @@
 pub mod DiagInfo
-pub mod Handed
+pub mod PartErrors
 pub mod PartPlaces
 pub mod Patterns

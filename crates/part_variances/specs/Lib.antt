@@ -1,2 +1,2 @@
 pub mod DiagInfo
-pub mod Handing
+pub mod PartErrors

@@ -3,5 +3,5 @@
 #![tactic(auto)]
 
 pub mod diag_info;
-pub mod handing;
+pub mod part_errors;
 pub mod variances;

@@ -19,7 +19,7 @@ use Rattle.relation_semantics.specs.Stores.{Store, IsTermIn, weight}
 use Rattle.relation_semantics.proofs.OneParts.{parts_counted}
 use Rattle.relation_semantics.proofs.Answering.{same_settings}
 use Rattle.relation_semantics.proofs.Going.{depth}
-use Rattle.part_variances.proofs.Handed.{HaveAsManyInputs}
+use Rattle.part_variances.proofs.PartErrors.{HaveAsManyInputs}
 use Rattle.part_variances.proofs.Patterns.{IsFormSort}
 pub use Rattle.relation_folds.proofs.Folding.{on_ok}
 

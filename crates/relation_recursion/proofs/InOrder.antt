@@ -21,7 +21,7 @@ use Rattle.relation_semantics.specs.Asking.{HaveAlias}
 use Rattle.relation_semantics.specs.Errors.{ErrorOf, Meeting, as_pair, as_forms, of_part_forms, AreOfOneForm, over_parts, over_aliases, one_leaf, parameters}
 use Rattle.relation_semantics.specs.Errors.{PartError}
 use Rattle.relation_semantics.specs.Parts.{direct_parts, head_of, IsByParts}
-use Rattle.part_variances.specs.Handing.{named_place, IsFaultOfPart}
+use Rattle.part_variances.specs.PartErrors.{named_place, IsFaultOfPart}
 use Rattle.relation_semantics.specs.Making.{form_over}
 use Rattle.relation_semantics.specs.Lawful.{State, Manners, MayAnswer, Passes, Refuses, RefusesAs, Related, RelatedAs}
 use Rattle.relation_semantics.specs.Lawful.{items_in}
@@ -52,8 +52,8 @@ use Rattle.relation_semantics.proofs.Retelling.{stopped}
 use Rattle.part_variances.proofs.Patterns.{term_related}
 use Rattle.relation_recursion.proofs.PartErrors.{term_looked_at, terms_unify, part_error_never, part_error_apart}
 use Rattle.relation_recursion.proofs.PartErrors.{part_error_known}
-use Rattle.part_variances.proofs.Handed.{HaveAsManyInputs, part_complains, same_part_fault, part_still_unrelated}
-use Rattle.part_variances.proofs.Handed.{part_fault_known}
+use Rattle.part_variances.proofs.PartErrors.{HaveAsManyInputs, part_complains, same_part_fault, part_still_unrelated}
+use Rattle.part_variances.proofs.PartErrors.{part_fault_known}
 use Rattle.relation_folds.proofs.Members.{fit_next}
 
 module _ {Key Id Name : Type 0} {r q : State Key Id Name} (M : Manners) (v : Variance) (a b : Tree) (i : ℕ)

@@ -11,7 +11,7 @@ use Rattle.relation_semantics.specs.Stores.{IsTermIn, weight}
 use Rattle.relation_semantics.specs.Goals.{Goal}
 use Rattle.relation_semantics.specs.Errors.{AreOfOneForm, over_parts, over_aliases, one_leaf, parameters, AreOfOneConst, values, expressions, over_arguments, const_parameters, one_const_leaf}
 use Rattle.relation_semantics.specs.Parts.{direct_parts, const_parts_of, head_of, const_head_of, IsByParts}
-use Rattle.part_variances.specs.Handing.{IsFaultOfTy, IsFaultOfConst, IsFaultOfPart, IsResultOfTy, IsResultOfConst, IsResultOfPart}
+use Rattle.part_variances.specs.PartErrors.{IsFaultOfTy, IsFaultOfConst, IsFaultOfPart, IsResultOfTy, IsResultOfConst, IsResultOfPart}
 use Rattle.relation_semantics.specs.Lawful.{State, Manner, Manners, TakesParts, Takes, Asked, LeadsToParts, LeadsAgain, items_in}
 use Rattle.relation_semantics.proofs.Going.{depth-mono, depth-strict, depth-spent, depth_later, depth}
 use Rattle.relation_semantics.proofs.Standing.{later_term}

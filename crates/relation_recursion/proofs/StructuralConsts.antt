@@ -28,7 +28,7 @@ use Rattle.relation_semantics.specs.Errors.{ErrorOf, ErrorByForms, ErrorAs, Meet
 use Rattle.relation_semantics.specs.Errors.{of_branches, of_kinds, of_forms, of_const_forms, FormError, ConstFormError}
 use Rattle.relation_semantics.specs.Errors.{AreOfOneConst, AreOfOneValue, values, expressions, const_parameters, one_value, as_many_branches, over_arguments, one_const_leaf}
 use Rattle.relation_semantics.specs.Parts.{IsRigid, IsFormedConst, const_parts_of, branches_of, const_head_of}
-use Rattle.part_variances.specs.Handing.{IsPassedOnConst, IsFaultOfConst, passed_const, whole}
+use Rattle.part_variances.specs.PartErrors.{IsPassedOnConst, IsFaultOfConst, passed_const, whole}
 use Rattle.relation_semantics.specs.Lawful.{State, Manners, MayAnswer, Passes, Refuses, RefusesAs, Related}
 use Rattle.relation_semantics.specs.Lawful.{RelatedAs, RelatedForms, ExactResult, ExactlyRelated, items_in}
 use Rattle.relation_semantics.specs.Lawful.{RecordsJustAsked, RecordsNoMore, RecordsAs}
@@ -53,7 +53,7 @@ use Rattle.relation_recursion.proofs.Unifying.{forms_not_unified, const_forms_no
 use Rattle.relation_recursion.proofs.StructuralTys.{same_const_fault, consts_never, consts_keep}
 use Rattle.relation_semantics.proofs.OneParts.{const_parts_equal, sort_is}
 use Rattle.relation_recursion.proofs.Compared.{form_apart, const_form_apart, known_error, known_const_error, formed_not_bindable, formed_consts_not_bindable}
-use Rattle.part_variances.proofs.Handed.{const_fault_known, AreOfTwoKinds, AtTop, at_top, value_top}
+use Rattle.part_variances.proofs.PartErrors.{const_fault_known, AreOfTwoKinds, AtTop, at_top, value_top}
 use Rattle.relation_recursion.proofs.PartSizes.{weight_const_parts_most}
 use Rattle.relation_semantics.proofs.Answering.{same_items, may_itself, covariantly}
 use Rattle.relation_semantics.proofs.AliasOutcomes.{error_stays}

@@ -23,7 +23,7 @@ use Rattle.relation_semantics.specs.Errors.{ErrorOf, ErrorByForms, as_forms, IsH
 use Rattle.relation_semantics.specs.Errors.{AreOfOneForm, over_parts, over_aliases, one_leaf, parameters}
 use Rattle.relation_semantics.specs.Errors.{AreOfOneConst}
 use Rattle.relation_semantics.specs.Parts.{IsRigid, direct_parts, const_parts_of, head_of, const_head_of}
-use Rattle.part_variances.specs.Handing.{IsPassedOn, IsNoLength, IsFaultOfTy, passed, sized, IsFaultOfConst, passed_const, whole}
+use Rattle.part_variances.specs.PartErrors.{IsPassedOn, IsNoLength, IsFaultOfTy, passed, sized, IsFaultOfConst, passed_const, whole}
 use Rattle.relation_semantics.specs.Lawful.{State, Manners, MayAnswer, Passes, Refuses, RefusesAs, Related}
 use Rattle.relation_semantics.specs.Lawful.{RelatedForms, ExactResult, ExactlyRelated, items_in}
 use Rattle.relation_semantics.proofs.Registered.{registered_in}
@@ -42,7 +42,7 @@ use Rattle.relation_semantics.specs.Headline.{IsFirstOrderPair}
 use Rattle.relation_semantics.specs.OneUniverse.{NamesTypesTo}
 use Rattle.relation_semantics.proofs.OneUniverse.{leaves_parts, keeps_binds, binds_as}
 use Rattle.relation_semantics.proofs.OneParts.{related_head, parts_equal, const_parts_equal, sort_is}
-use Rattle.part_variances.proofs.Handed.{ty_fault_known}
+use Rattle.part_variances.proofs.PartErrors.{ty_fault_known}
 use Rattle.relation_recursion.proofs.PartSizes.{weight_parts_most}
 use Rattle.relation_semantics.proofs.Answering.{same_items, may_itself}
 use Rattle.relation_semantics.proofs.Erased.{alias_not_first}

@@ -5,12 +5,12 @@ ghost use Rattle.relation_terms.specs.Meaning.{arg_tree};
 ghost use Rattle.relation_terms.specs.Parts.{part_tree, part_sort, Fit};
 ghost use Rattle.relation_semantics.specs.Parts.{direct_parts, const_parts_of, IsByParts};
 ghost use Rattle.relation_semantics.specs.Making.{FitArgs};
-ghost use Rattle.part_variances.specs.Handing.{IsResultOfTy, IsResultOfConst, IsResultOfPart};
+ghost use Rattle.part_variances.specs.PartErrors.{IsResultOfTy, IsResultOfConst, IsResultOfPart};
 ghost use Rattle.relation_recursion.specs.Keeping.{AreFirstParts, KeepsAnswer, KeepsResult};
 ghost use Rattle.relation_recursion.specs.Keeping.{HasPartsTo, HasConstPartsTo, HasTermPartsTo};
 
 use crate::parts::{const_part, part};
-use part_variances::handing::{in_const, in_part, in_ty};
+use part_variances::part_errors::{in_const, in_part, in_ty};
 use relation_folds::error::RelateResult;
 use relation_folds::fold::first_members;
 use relation_steps::type_relation::TypeRelation;

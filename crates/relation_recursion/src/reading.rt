@@ -12,13 +12,13 @@ ghost use Rattle.relation_steps.specs.Keyed.{ShownTys, NotedTys, TysAskOpen, Are
 ghost use Rattle.relation_steps.specs.Terms.{AskedTerms};
 ghost use Rattle.relation_recursion.specs.Comparing.{AreOfOneFormBy, PartsDiffer, nth_part, nth_const_part};
 ghost use Rattle.relation_recursion.specs.Starting.{Starts};
-ghost use Rattle.part_variances.specs.Handing.{named_place};
+ghost use Rattle.part_variances.specs.PartErrors.{named_place};
 
 use crate::comparing::{compare_consts, compare_members, compare_parts};
 use crate::forms::is_error_const;
 use crate::parts::{const_part, const_parts_count, part, term_part, term_parts_count};
 use crate::starting::{Start, begin};
-use part_variances::handing;
+use part_variances::part_errors;
 use relation_folds::error::{RelateResult, TypeErrorOf};
 use relation_steps::type_relation::TypeRelation;
 use relation_terms::terms::{
@@ -162,7 +162,7 @@ pub(crate) fn named_place_of<I: Interner, R: TypeRelation<I>>(
     requires in_bounds { i < count (direct_parts (part_tree (R.state r.now).meaning term.now)) }
     ensures { result ≡ named_place (part_tree (R.state r.now).meaning term.now) i }
 {
-    handing::named_place(r.cx(), term, i)
+    part_errors::named_place(r.cx(), term, i)
 }
 
 // Has the relation take note of arguments that were related at declared variances. It stands apart, so that the

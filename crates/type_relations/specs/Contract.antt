@@ -52,7 +52,10 @@ module _ {S Key Id Name A : Type 0} (state : S → Context Key Id Name) (old new
       (result : Result (Vec (Goal Key (PredicateKey Key))) (RelateFault Key Id Name)) : Type 0 where
     -- What satisfies the record after and makes the goals true relates the two.
     pub sound : AnswersTerms state old new over tree e v a b result
-    -- Nothing in the two clashes, by what they came to before.
+    -- What clashes is refused, at each variance: by what they came to before, the two are of one form throughout, down
+    -- to pairs that are left to goals or left open, and to variables and errors, which agree with each term of their
+    -- sort, an integer or float variable only with what may stand for it; so do regions with regions, and under binders
+    -- what these bind.
     pub agrees : RelatesAgreeing state old new over tree g v a b result
 
   -- No solution is lost.
@@ -61,7 +64,8 @@ module _ {S Key Id Name A : Type 0} (state : S → Context Key Id Name) (old new
     -- What made the two one before extends to what satisfies the record after and makes the goals true; so it does
     -- where relating them stopped for want of memory or of instantiations, and was asked no goal.
     pub keeps : KeepsEqual state old new over tree a b result
-    -- Of first-order terms just the solutions that unify the two stay, up to erasure, and all where it stopped so.
+    -- Of first-order terms in a first-order record at invariance just the solutions that unify the two stay, up to
+    -- erasure, and no goal is asked: what is recorded is a most general unifier. All stay where it stopped so.
     pub most_general : AnswersExactly state old new over tree v a b result
 
   -- A fault is true.
@@ -73,18 +77,29 @@ module _ {S Key Id Name A : Type 0} (state : S → Context Key Id Name) (old new
     -- It is an error of the two, or of two parts at one place, and the interner knows it.
     pub errors : AnswersError state old new over tree g v a b result
     pub fault_known : IfErr result (λ f. KnowsFault (state new).meaning f)
-    -- `Budget` comes where none is left, and of first-order terms never with one for each variable.
+    -- `Budget` comes where none is left. Of first-order terms in a first-order record at invariance, where the variables
+    -- of types and constants are of one universe and no placeholder of these is beyond it, at most as many
+    -- instantiations are made as there were unresolved ones: with a budget of that number it never comes.
     pub spent : IfSpent result ((state new).store.budget ≡ 0)
     pub budget_suffices : SpendsNoMore state old new over tree v a b result
 
   -- Nothing is asked for but what the two ask for.
   pub record AsksOnly (g : StructurallyRelateAliases) (e : ParamEnvKey Key) (v : Variance) (a b : A)
       (result : Result (Vec (Goal Key (PredicateKey Key))) (RelateFault Key Id Name)) : Type 0 where
-    -- Only goals that relating registers are answered.
+    -- Each goal asks, in the environment, that of two type variables the one is a subtype of the other, such as met at
+    -- covariance or contravariance, each unbound before or made on the way; or that a type is well formed, one with a
+    -- bivariant part, of types over one item that met there, where a variable, but of regions, was left in a bivariant
+    -- argument of either; or what is said of aliases.
     pub goals : AnswersOnly state old new g e v result
-    -- Of two bare terms just what they ask for is recorded and answered.
+    -- Of two bare terms, which are first-order but for aliases, have no variable but of regions, and no alias unless
+    -- aliases are left to goals, just what they ask for is recorded, behind all that stood, and answered. Two regions
+    -- ask, by the variance of their place, that the left one outlives the right one, the right one the left one, or
+    -- both each other; of two different terms of which one is an alias or an unevaluated constant their goal alone is
+    -- asked for. Either may come more than once; but a pair that is met again may add nothing, and that a region
+    -- outlives itself need not be recorded.
     pub asked : JustAsked state old new over tree g e v a b result
-    -- Of others without binders and aliases no constraint is recorded but what they ask for by what they come to.
+    -- Of others without binders and aliases, or with aliases that are left to goals, as is what was bound, no constraint
+    -- is recorded but what they ask for by what they come to then, and ever after.
     pub no_more : OnlyAsked state old new over tree g v a b result
     -- Of two that are one nothing is.
     pub same : term_in (state old) over tree a ≡ term_in (state old) over tree b → Idle state old new result
@@ -99,7 +114,13 @@ module _ {S Key Id Name A : Type 0} (state : S → Context Key Id Name) (old new
     -- The interner's keys keep their meanings; how the context was made stands.
     pub grown : Extends (state old).meaning (state new).meaning
     pub frame : KeepsBeside (state old) (state new)
-    -- Which variables are made, of what all is built that is bound and answered, and what that spends.
+    -- No variable of a number is made, and others only to instantiate one or to open a binder: none where no binder
+    -- stands in either or in what a variable was bound to, and nothing was left of the budget or no variable of a type
+    -- or a constant was unbound.
     pub new_variables : MakesToRelate state old new over tree a b
+    -- No form, no atom and no binder is brought in: what is bound then, and what the goals speak of, is built of those
+    -- that stood in the two or in what a variable was bound to. Without binders there no universe is made.
     pub no_new_forms : BuildsNoMore state old new over tree a b result
+    -- Only what was the context's and unbound is bound, or was made on the way: variables of types and constants each
+    -- for one instantiation, those of numbers for none.
     pub budget : SpendsByBinding (state old) (state new)

@@ -16,7 +16,7 @@ pub use Rattle.relation_recursion.specs.EqualItems
 pub use Rattle.relation_recursion.specs.EqualTerms
 pub use Rattle.relation_steps.specs.Following
 pub use Rattle.relation_recursion.specs.Forms
-pub use Rattle.part_variances.specs.Handing
+pub use Rattle.part_variances.specs.PartErrors
 pub use Rattle.relation_steps.specs.Keyed
 pub use Rattle.relation_combining.specs.Deferring
 pub use Rattle.relation_recursion.specs.Makers

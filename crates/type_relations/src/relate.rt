@@ -3,7 +3,7 @@
 pub mod solver_relating;
 
 pub use part_variances::diag_info::{VarianceDiagInfo, VarianceDiagInfoOf};
-pub use part_variances::handing;
+pub use part_variances::part_errors;
 pub use relation_combining::{combine, variables};
 pub use relation_folds::error::RelateResult;
 pub use relation_recursion::args::{

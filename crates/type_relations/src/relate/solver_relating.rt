@@ -40,73 +40,16 @@ pub trait RelateExt: InferCtxtLike {
     /// the goal `Ambiguous`. An error is related with each term of its sort, and taints the context.
     ///
     /// After `Ok`, each assignment that satisfies what is recorded and makes the goals true relates the two; and each
-    /// that satisfied what was recorded and made them one extends to such a one. Each goal asks, in the environment,
-    /// that of two type variables the one is a subtype of the other: such as met at `Covariant` or `Contravariant`,
-    /// each unbound before or made on the way; or that a type is well formed, one with a bivariant part: of types over
-    /// one item that met there, where a variable, but of regions, was left in a bivariant argument of either; or what
-    /// is said above of aliases. Equal ones record nothing, and ask for no goal. Of first-order terms in a first-order
-    /// record at `Invariant` just those solutions up to erasure stay that unify them, and no goal is asked: what is
-    /// recorded is then a most general unifier.
+    /// that satisfied what was recorded and made them one extends to such a one. What clashes is refused. Equal ones
+    /// record nothing, and ask for no goal. On each outcome all that was recorded stands. What else is promised is said
+    /// at each field of the records in `specs/Contract`, and at the words of the other clauses.
     ///
-    /// What clashes is refused at each variance, also behind what was bound before: after `Ok` the two, by what they
-    /// came to before the call, are of one form throughout, down to pairs that are left to goals or left open, and to
-    /// variables and errors, which agree with each term of their sort, an integer or float variable only with what may
-    /// stand for it; so do regions with regions, and under binders what these bind.
-    ///
-    /// Of terms without variables that are first-order but for binders of regions, or that have aliases, left to goals,
-    /// and no binder, `Ok` comes only of such that are related where all regions outlive each other and what is asked
-    /// of aliases is so, and `Unrelated` only of such that are related nowhere; `Budget` never comes, also where none
-    /// is left. Of two without binders and aliases `Ok` says just where they are related: where the constraints hold
-    /// that they ask for. Whatever is closed, so that no variable stands in it but of regions, and no binder binds
-    /// others, binds and spends nothing, and makes no variable but of regions, without binders none; and without
-    /// aliases no goal is asked.
-    ///
-    /// Of two bare terms, which are first-order but for aliases, have no variable but of regions,
-    /// and no alias unless aliases are left to goals, `Ok` has recorded just the constraints that
-    /// they ask for, behind all that stood, and answers just the goals that they ask for. Two
-    /// regions ask, by the variance of their place, that the left one outlives the right one, the
-    /// right one the left one, or both each other; of two different terms of which one is an alias
-    /// or an unevaluated constant their goal alone is asked for. Such a constraint or goal may come
-    /// more than once; but a pair that is met again may add nothing, and that a region outlives
-    /// itself need not be recorded. Of others without binders and aliases, or with aliases that are
-    /// left to goals, as is what was bound, `Ok` has recorded no constraint but what they ask for by
-    /// what they come to then, and ever after.
-    ///
-    /// Two different types that are unresolved type variables answer just one goal, and nothing is recorded: at
-    /// `Covariant` that the first is a subtype of the second, at `Contravariant` that the second is one of the first.
-    /// Both stand there by their roots, and the first is the expected one. So does an alias with another type, where
-    /// aliases are left to goals, and neither is an error or a type variable, at each variance: that goal alone.
-    ///
-    /// Of two different types of which one is an error and neither a type variable, as they are read by what is
-    /// recorded, it is recorded that an error was met, and nothing else, also where a growth was refused; and no goal is
-    /// answered.
-    ///
-    /// Of two different types over one item, as they are read, both goals that they are well formed are answered at
-    /// `Covariant` and `Contravariant`, where a variable but of a region is left in an argument of either that the item
-    /// declares bivariant.
-    ///
-    /// Answers `Unrelated` only where no assignment that satisfied what was recorded makes the two one: with the error
-    /// of the two, or of two parts that stand at one place, the left side's first; or of a variable that can't be bound
-    /// to the other side, in which it stands itself, or a placeholder that it can't name. Of first-order terms in a
-    /// first-order record at `Invariant` no solution up to erasure unifies them then. Answers `Budget` only where no
-    /// instantiation is left, and `Memory` where a growth was refused. These two lose no solution: what made the two
-    /// one extends to what is recorded then, and who asks again with more gets the answer.
-    ///
-    /// On each outcome all that was recorded stands. It makes no variable of a number, and others only to instantiate
-    /// one or to open a binder: none where no binder stands in either or in what a variable was bound to, and nothing
-    /// was left of the budget or no variable of a type or a constant was unbound. It binds only what was the context's
-    /// and unbound, or was made on the way: variables of types and constants each for one instantiation, those of
-    /// numbers for none. After an error more may have been recorded and made on the way. How the context was made
-    /// stands, and so do the types that are to outlive regions.
-    ///
-    /// It brings in no form, no atom and no binder: what is bound then, and what the goals speak of, is built of those
-    /// that stood in the two or in what a variable was bound to. Where no binder stood there, no universe is made: the
-    /// current one is the old one.
-    ///
-    /// Of first-order terms in a first-order record at `Invariant`, where the variables of types and constants are of
-    /// one universe and no placeholder of a type or a constant in the terms is beyond it, at most as many
-    /// instantiations are made as there were unresolved variables of types and constants: with a budget of that number
-    /// `Budget` never comes.
+    /// # Errors
+    /// `Unrelated` only where no assignment that satisfied what was recorded makes the two one: with the error of the
+    /// two, or of two parts that stand at one place, the left side's first; or of a variable that can't be bound to the
+    /// other side, in which it stands itself, or a placeholder that it can't name. `Budget` only where no instantiation
+    /// is left, and `Memory` where a growth was refused: these two lose no solution. What made the two one extends to
+    /// what is recorded then, and who asks again with more gets the answer.
     fn relate<T: Relate<Self::Interner>>(
         &mut self,
         param_env: ParamEnv<Self::Interner>,

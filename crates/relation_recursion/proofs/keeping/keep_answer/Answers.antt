@@ -5,7 +5,7 @@ use Rattle.relation_folds.specs.declared.error.RelateFault.TheVariants.{Memory}
 use Rattle.relation_semantics.specs.Making.{FitArgs}
 use Rattle.relation_semantics.specs.Parts.{direct_parts, IsByParts}
 use Rattle.relation_semantics.proofs.Passing.{as_err}
-use Rattle.part_variances.specs.Handing.{IsResultOfTy}
+use Rattle.part_variances.specs.PartErrors.{IsResultOfTy}
 use Rattle.relation_recursion.specs.Keeping.{KeepsAnswer, answer_kept, error_handed, no_memory}
 use Rattle.relation_recursion.proofs.keeping.keep_answer.Goals as goal
 

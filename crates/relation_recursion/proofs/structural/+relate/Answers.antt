@@ -27,7 +27,7 @@ use Rattle.relation_recursion.proofs.ByParts.{paired_args, are_args, sort_as_arg
 use Rattle.relation_recursion.proofs.ByParts.{binder_not_compared, form_compared, paired_compared, inputs_compared}
 use Rattle.relation_recursion.proofs.ByParts.{no_inputs_yet, inputs_next, compared_as, alike_back, on_ok, asked_turned}
 use Rattle.relation_recursion.proofs.ByParts.{depth_turned}
-use Rattle.part_variances.specs.Handing.{IsResultOfTy, IsResultOfConst, IsResultOfPart, named_place}
+use Rattle.part_variances.specs.PartErrors.{IsResultOfTy, IsResultOfConst, IsResultOfPart, named_place}
 use Rattle.relation_semantics.specs.Making.{arg_sort, FitArgs, form_over, const_over}
 use Rattle.relation_semantics.proofs.Answering.{same_items, same_settings, AreAnswers, answers_end, may_over, may_const_over, may_later, if_ok_both, covariantly}
 use Rattle.relation_recursion.specs.PredicateForms.{form_of_part}
@@ -40,7 +40,7 @@ use Rattle.relation_semantics.proofs.Standing.{term_context}
 use Rattle.relation_semantics.proofs.Parts.{in_parts, in_const_parts}
 use Rattle.relation_semantics.proofs.OneParts.{parts_counted, const_parts_counted}
 use Rattle.relation_recursion.proofs.Compared.{parts_of_list, const_parts_list}
-use Rattle.part_variances.proofs.Handed.{AreOfTwoKinds, no_lifetime, no_ty, no_const_arg, HaveAsManyInputs}
+use Rattle.part_variances.proofs.PartErrors.{AreOfTwoKinds, no_lifetime, no_ty, no_const_arg, HaveAsManyInputs}
 use Rattle.relation_semantics.proofs.Building.{built_again, built_as}
 use Rattle.relation_semantics.proofs.Passing.{asked_later, manner_then}
 use Rattle.relation_semantics.proofs.Passing.{as_err}

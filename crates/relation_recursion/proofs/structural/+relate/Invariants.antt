@@ -7,7 +7,7 @@ use Rattle.relation_semantics.specs.Parts.{direct_parts, const_parts_of, head_of
 use Rattle.relation_semantics.specs.Making.{FitArgs}
 use Rattle.relation_semantics.proofs.Going.{depth}
 use Rattle.relation_steps.proofs.Fronts.{Fronted, AreParts}
-use Rattle.part_variances.proofs.Handed.{HaveAsManyInputs}
+use Rattle.part_variances.proofs.PartErrors.{HaveAsManyInputs}
 use Rattle.relation_recursion.proofs.Kept.{AreKept}
 use Rattle.relation_recursion.proofs.structural.+relate.Given as goal
 

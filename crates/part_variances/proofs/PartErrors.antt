@@ -44,8 +44,8 @@ use Rattle.relation_semantics.specs.Parts.{direct_parts, head_of, IsByParts}
 use Rattle.relation_semantics.proofs.Standing.{stands_term}
 use Rattle.part_variances.proofs.Patterns.{no_argument, var_argument, bound_argument}
 use Rattle.part_variances.proofs.PartPlaces.{two_shape}
-use Rattle.part_variances.specs.Handing.{IsPassedOn, IsNoLength, IsFaultOfTy, passed, sized, IsFaultOfConst, passed_const, whole}
-use Rattle.part_variances.specs.Handing.{named_place, IsFaultOfPart, IsResultOfPart, IsPlacedOrNot, no_place, no_error, unplaced, placed}
+use Rattle.part_variances.specs.PartErrors.{IsPassedOn, IsNoLength, IsFaultOfTy, passed, sized, IsFaultOfConst, passed_const, whole}
+use Rattle.part_variances.specs.PartErrors.{named_place, IsFaultOfPart, IsResultOfPart, IsPlacedOrNot, no_place, no_error, unplaced, placed}
 use Rattle.relation_folds.specs.Faults.{KnowsError}
 use Rattle.relation_semantics.proofs.OneParts.{sort_is}
 

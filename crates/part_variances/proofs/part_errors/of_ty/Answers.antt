@@ -2,9 +2,9 @@ use Rattle.std.proofs.Common.{refl, ap, ap₂, ◌∙◌}
 use Rattle.relation_terms.specs.Meaning.{kind_tree}
 use Rattle.relation_folds.specs.declared.error.TypeError.TheVariants.{ArraySize}
 use Rattle.relation_folds.specs.declared.error.RelateFault.TheVariants.{Unrelated}
-use Rattle.part_variances.specs.Handing.{sized, passed}
-use Rattle.part_variances.proofs.Handed.{passed_tree, passed_left, passed_right, passed_error, passed_fault}
-use Rattle.part_variances.proofs.handing.of_ty.Goals as goal
+use Rattle.part_variances.specs.PartErrors.{sized, passed}
+use Rattle.part_variances.proofs.PartErrors.{passed_tree, passed_left, passed_right, passed_error, passed_fault}
+use Rattle.part_variances.proofs.part_errors.of_ty.Goals as goal
 
 pub ty_kind-requires : goal.ty_kind-requires
 ty_kind-requires g c = c.requires

@@ -4,9 +4,9 @@ use Rattle.relation_terms.specs.Heads.{inputs}
 use Rattle.relation_terms.specs.Trees.{known, node, nil, cons, front, last}
 use Rattle.relation_terms.specs.Parts.{part_tree}
 use Rattle.relation_terms.specs.Interning.{Sorted}
-use Rattle.part_variances.specs.Handing.{named_place}
-use Rattle.part_variances.proofs.Handed.{named_output, part_unnamed, above, no_signature_inputs}
-use Rattle.part_variances.proofs.handing.named_place.Goals as goal
+use Rattle.part_variances.specs.PartErrors.{named_place}
+use Rattle.part_variances.proofs.PartErrors.{named_output, part_unnamed, above, no_signature_inputs}
+use Rattle.part_variances.proofs.part_errors.named_place.Goals as goal
 
 pub member_count-requires : goal.member_count-requires
 member_count-requires g c =

@@ -2,8 +2,8 @@
 ghost use Rattle.std.specs.Prelude.{◌≡◌, IsTrue};
 ghost use Rattle.relation_terms.specs.Trees.{known};
 ghost use Rattle.relation_terms.specs.Parts.{part_tree};
-ghost use Rattle.part_variances.specs.Handing.{IsFaultOfTy, IsFaultOfConst, IsResultOfTy, IsResultOfConst};
-ghost use Rattle.part_variances.specs.Handing.{IsResultOfPart, IsPlacedOrNot, named_place as place_named};
+ghost use Rattle.part_variances.specs.PartErrors.{IsFaultOfTy, IsFaultOfConst, IsResultOfTy, IsResultOfConst};
+ghost use Rattle.part_variances.specs.PartErrors.{IsResultOfPart, IsPlacedOrNot, named_place as place_named};
 
 use relation_folds::error::{
     ExpectedFound, RelateFault, RelateFaultOf, RelateResult, TypeError, TypeErrorOf,

@@ -1,8 +1,8 @@
 use Rattle.std.proofs.Common.{Err, refl, sym, subst}
 use Rattle.relation_folds.specs.declared.error.RelateFault.TheVariants.{Unrelated}
-use Rattle.part_variances.specs.Handing.{IsResultOfPart, no_error}
-use Rattle.part_variances.proofs.Handed.{no_place_named, result_stays, fault_placed}
-use Rattle.part_variances.proofs.handing.in_part.Goals as goal
+use Rattle.part_variances.specs.PartErrors.{IsResultOfPart, no_error}
+use Rattle.part_variances.proofs.PartErrors.{no_place_named, result_stays, fault_placed}
+use Rattle.part_variances.proofs.part_errors.in_part.Goals as goal
 
 pub returns-in_default : goal.returns-in_default
 returns-in_default g c = result_stays c.args.place c.args.related (no_place_named c.args.place c.in_default.not-Some)

@@ -1,7 +1,7 @@
 use Rattle.std.proofs.Common.{inl, inr, refl}
 use Rattle.relation_semantics.specs.Errors.{sorts_at, argument_sorts_at, mutability_at, argument_mutability_at}
-use Rattle.part_variances.proofs.Handed.{names_none}
-use Rattle.part_variances.proofs.handing.at_place.Goals as goal
+use Rattle.part_variances.proofs.PartErrors.{names_none}
+use Rattle.part_variances.proofs.part_errors.at_place.Goals as goal
 
 pub returns-in-Sorts : goal.returns-in-Sorts
 returns-in-Sorts g c = inl (sorts_at c.in-Sorts.pair c.in-Sorts.is refl)

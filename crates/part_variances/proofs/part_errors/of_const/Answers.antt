@@ -2,8 +2,8 @@ use Rattle.std.proofs.Common.{ap, ap₂, ◌∙◌}
 use Rattle.relation_terms.specs.Meaning.{const_tree}
 use Rattle.relation_folds.specs.declared.error.TypeError.TheVariants.{ConstMismatch}
 use Rattle.relation_folds.specs.declared.error.RelateFault.TheVariants.{Unrelated}
-use Rattle.part_variances.specs.Handing.{whole}
-use Rattle.part_variances.proofs.handing.of_const.Goals as goal
+use Rattle.part_variances.specs.PartErrors.{whole}
+use Rattle.part_variances.proofs.part_errors.of_const.Goals as goal
 
 pub returns : goal.returns
 returns g c =
