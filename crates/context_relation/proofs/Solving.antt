@@ -441,9 +441,9 @@ module _ {Key Id Name X : Type 0} (j i : Held Key) (gs hs : List (KeyedGoal Key 
           (ap (λ k. solver_settings (k.settings).structurally_relate_aliases i.setup) (h.passes).kept) f
 
       verdict : (r : Result X (RelateFault Key Id Name)) →
-          VerdictAs as_pair solver_manner (solving j gs m was L v e) (solving i hs n now K v e) ((h.passes).added) v a b tree r →
+          VerdictAs as_pair solver_manner (solving j gs m was L v e) (solving i hs n now K v e) ((h.passes).added) (at v) a b tree r →
           VerdictAs as_pair solver_manner (solving (seen_from j j) gs m was L v e) (solving (seen_from j i) hs n now K v e)
-          ((h.passes).added) v a b tree r
+          ((h.passes).added) (at v) a b tree r
       verdict (Ok t) o = record {
         outcome = o.outcome;
         answer = record { related = (o.answer).related };
@@ -518,8 +518,8 @@ module _ {Key Id Name X : Type 0} (j i : Held Key) (gs hs : List (KeyedGoal Key 
       )
 
       verdict : (r : Result X (RelateFault Key Id Name)) →
-          VerdictAs as_pair solver_manner (solving j gs m was L v e) (solving i hs n now K v e) ((h.passes).added) v a b tree r →
-          VerdictAs as_pair solver_manner (solving j gs m was L v e) (solving (forgotten i) hs n now K v e) ((h.passes).added) v a b
+          VerdictAs as_pair solver_manner (solving j gs m was L v e) (solving i hs n now K v e) ((h.passes).added) (at v) a b tree r →
+          VerdictAs as_pair solver_manner (solving j gs m was L v e) (solving (forgotten i) hs n now K v e) ((h.passes).added) (at v) a b
           tree r
       verdict (Ok t) o = record {
         outcome = o.outcome;
