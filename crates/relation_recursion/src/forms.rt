@@ -7,7 +7,7 @@ ghost use Rattle.relation_recursion.specs.Forms.{form_alone, of_item, of_pointer
 ghost use Rattle.relation_recursion.specs.Forms.{IsFixed, IsOneItem};
 
 use relation_semantics::variances::alias_item;
-use relation_terms::terms::{Const, ConstKind, Interner, Mutability, Ty, TyForm, TyKind};
+use relation_terms::terms::{Interner, Mutability, Ty, TyForm, TyKind};
 
 // Which form a type over parts has. Each is the form of `TyKind` of that name.
 #[derive(Clone, Copy, PartialEq, Eq)]
@@ -118,17 +118,6 @@ pub(crate) fn is_error<I: Interner>(cx: &I, ty: &Ty<I>) -> bool
 {
     match cx.ty_kind(ty) {
         TyKind::Error(_) => true,
-        _ => false,
-    }
-}
-
-// The same of a constant.
-pub(crate) fn is_error_const<I: Interner>(cx: &I, constant: &Const<I>) -> bool
-    requires { IsTrue (known ((I.meaning cx.now).const_ constant.now)) }
-    ensures { IsTrue result ↔ IsError ((I.meaning cx.now).const_ constant.now) }
-{
-    match cx.const_kind(constant) {
-        ConstKind::Error(_) => true,
         _ => false,
     }
 }

@@ -2,14 +2,14 @@
 ghost use Rattle.std.specs.Prelude.{◌≡◌, ◌≤◌, IsTrue, IfOk, []};
 ghost use Rattle.relation_terms.specs.Trees.{known, count};
 ghost use Rattle.relation_terms.specs.Meaning.{arg_tree};
-ghost use Rattle.relation_terms.specs.Parts.{part_tree, part_sort, Fit};
+ghost use Rattle.relation_terms.specs.Parts.{part_tree, Fit};
 ghost use Rattle.relation_semantics.specs.Parts.{direct_parts, const_parts_of, IsByParts};
 ghost use Rattle.relation_semantics.specs.Making.{FitArgs};
 ghost use Rattle.part_variances.specs.PartErrors.{IsResultOfTy, IsResultOfConst, IsResultOfPart};
 ghost use Rattle.relation_recursion.specs.Keeping.{AreFirstParts, KeepsAnswer, KeepsResult};
 ghost use Rattle.relation_recursion.specs.Keeping.{HasPartsTo, HasConstPartsTo, HasTermPartsTo};
 
-use crate::parts::{const_part, part};
+use crate::reading::{const_part_of, part_of};
 use part_variances::part_errors::{in_const, in_part, in_ty};
 use relation_folds::error::RelateResult;
 use relation_folds::fold::first_members;
@@ -26,126 +26,45 @@ pub(crate) fn no_answers<I: Interner, R: TypeRelation<I>, T: Copy>(r: &R) -> Vec
 
 // The first parts of a type, so many.
 #[inline(never)]
-fn first_parts<I: Interner>(
-    cx: &I,
+fn first_parts<I: Interner, R: TypeRelation<I>>(
+    r: &R,
     ty: &Ty<I>,
     amount: usize,
 ) -> Result<Vec<GenericArg<I>>, OutOfMemory>
-    requires ty_known { IsTrue (known ((I.meaning cx.now).ty ty.now)) }
-    requires over_args { IsByParts ((I.meaning cx.now).ty ty.now) → ⊥ }
-    requires in_bounds { amount ≤ count (direct_parts ((I.meaning cx.now).ty ty.now)) }
-    ensures { let m = I.meaning cx.now in
+    requires ty_known { IsTrue (known ((R.state r.now).meaning.ty ty.now)) }
+    requires over_args { IsByParts ((R.state r.now).meaning.ty ty.now) → ⊥ }
+    requires in_bounds { amount ≤ count (direct_parts ((R.state r.now).meaning.ty ty.now)) }
+    ensures { let m = (R.state r.now).meaning in
         IfOk result (λ list. AreFirstParts (arg_tree m) FitArgs amount (direct_parts (m.ty ty.now)) list.items) }
 {
-    let mut list = Vec::new(cx.alloc());
+    let mut list = Vec::new(r.cx().alloc());
     for i in 0..amount {
-        list.push(part(cx, ty, i))?;
+        list.push(part_of::<I, R>(r, ty, i))?;
     }
     Ok(list)
 }
 
 // The same of a constant.
 #[inline(never)]
-fn first_const_parts<I: Interner>(
-    cx: &I,
+fn first_const_parts<I: Interner, R: TypeRelation<I>>(
+    r: &R,
     constant: &Const<I>,
     amount: usize,
 ) -> Result<Vec<GenericArg<I>>, OutOfMemory>
-    requires constant_known { IsTrue (known ((I.meaning cx.now).const_ constant.now)) }
-    requires in_bounds { amount ≤ count (const_parts_of ((I.meaning cx.now).const_ constant.now)) }
-    ensures { let m = I.meaning cx.now in IfOk result (λ list.
+    requires constant_known { IsTrue (known ((R.state r.now).meaning.const_ constant.now)) }
+    requires in_bounds { amount ≤ count (const_parts_of ((R.state r.now).meaning.const_ constant.now)) }
+    ensures { let m = (R.state r.now).meaning in IfOk result (λ list.
         AreFirstParts (arg_tree m) FitArgs amount (const_parts_of (m.const_ constant.now)) list.items) }
 {
-    let mut list = Vec::new(cx.alloc());
+    let mut list = Vec::new(r.cx().alloc());
     for i in 0..amount {
-        list.push(const_part(cx, constant, i))?;
+        list.push(const_part_of::<I, R>(r, constant, i))?;
     }
     Ok(list)
 }
 
-// Puts what a type answers for its part at place `i` behind the answers before it. While each is the part none is kept:
-// the first that is not is put behind those parts.
-#[inline(always)]
-fn add_answer<I: Interner>(
-    cx: &I,
-    ty: &Ty<I>,
-    i: usize,
-    part: &GenericArg<I>,
-    answer: GenericArg<I>,
-    answers: &mut Vec<GenericArg<I>>,
-) -> Result<(), OutOfMemory>
-    requires ty_known { IsTrue (known ((I.meaning cx.now).ty ty.now)) }
-    requires over_args { IsByParts ((I.meaning cx.now).ty ty.now) → ⊥ }
-    requires in_bounds { i ≤ count (direct_parts ((I.meaning cx.now).ty ty.now)) }
-    ensures { let m = I.meaning cx.now in IfOk result (λ _. KeepsAnswer (arg_tree m) FitArgs i
-        (direct_parts (m.ty ty.now)) answer answers.old.items answers.new.items) }
-{
-    if answers.is_empty() {
-        if answer == *part {
-            return Ok(());
-        }
-        *answers = first_parts(cx, ty, i)?;
-    }
-    answers.push(answer)?;
-    Ok(())
-}
-
-// The same of a constant.
-#[inline(always)]
-fn add_const_answer<I: Interner>(
-    cx: &I,
-    constant: &Const<I>,
-    i: usize,
-    part: &GenericArg<I>,
-    answer: GenericArg<I>,
-    answers: &mut Vec<GenericArg<I>>,
-) -> Result<(), OutOfMemory>
-    requires constant_known { IsTrue (known ((I.meaning cx.now).const_ constant.now)) }
-    requires in_bounds { i ≤ count (const_parts_of ((I.meaning cx.now).const_ constant.now)) }
-    ensures { let m = I.meaning cx.now in IfOk result (λ _. KeepsAnswer (arg_tree m) FitArgs i
-        (const_parts_of (m.const_ constant.now)) answer answers.old.items answers.new.items) }
-{
-    if answers.is_empty() {
-        if answer == *part {
-            return Ok(());
-        }
-        *answers = first_const_parts(cx, constant, i)?;
-    }
-    answers.push(answer)?;
-    Ok(())
-}
-
-// The same of a term that is related by its parts.
-#[inline(always)]
-fn add_term_answer<I: Interner>(
-    cx: &I,
-    term: &PartOf<I>,
-    i: usize,
-    part: &PartOf<I>,
-    answer: PartOf<I>,
-    answers: &mut Vec<PartOf<I>>,
-) -> Result<(), OutOfMemory>
-    requires term_known { IsTrue (known (part_tree (I.meaning cx.now) term.now)) }
-    requires form { IsByParts (part_tree (I.meaning cx.now) term.now) }
-    requires in_bounds { i ≤ count (direct_parts (part_tree (I.meaning cx.now) term.now)) }
-    requires part_known { IsTrue (known (part_tree (I.meaning cx.now) part.now)) }
-    requires answer_known { IsTrue (known (part_tree (I.meaning cx.now) answer)) }
-    requires sort { part_sort answer ≡ part_sort part.now }
-    ensures { let m = I.meaning cx.now in IfOk result (λ _. KeepsAnswer (part_tree m) Fit i
-        (direct_parts (part_tree m term.now)) answer answers.old.items answers.new.items) }
-{
-    if answers.is_empty() {
-        if is_same(cx, part, &answer) {
-            return Ok(());
-        }
-        *answers = first_members(cx, &parts_of(cx, term), i)?;
-    }
-    answers.push(answer)?;
-    Ok(())
-}
-
 // Keeps what two types answer where their parts at place `i`, `x` and `y`, have answered `related`, behind the answers
-// before it. While each is the left type's part none is kept.
+// before it. While each is the left type's part none is kept: the first that is not is put behind those parts.
 #[inline(always)]
 pub(crate) fn keep_answer<I: Interner, R: TypeRelation<I>>(
     r: &R,
@@ -163,7 +82,13 @@ pub(crate) fn keep_answer<I: Interner, R: TypeRelation<I>>(
 {
     let cx = r.cx();
     let answer = in_ty(cx, ty, x, y, related)?;
-    add_answer(cx, ty, i, x, answer, answers)?;
+    if answers.is_empty() {
+        if answer == *x {
+            return Ok(());
+        }
+        *answers = first_parts::<I, R>(r, ty, i)?;
+    }
+    answers.push(answer)?;
     Ok(())
 }
 
@@ -185,7 +110,13 @@ pub(crate) fn keep_const_answer<I: Interner, R: TypeRelation<I>>(
 {
     let cx = r.cx();
     let answer = in_const(cx, a, b, related)?;
-    add_const_answer(cx, a, i, x, answer, answers)?;
+    if answers.is_empty() {
+        if answer == *x {
+            return Ok(());
+        }
+        *answers = first_const_parts::<I, R>(r, a, i)?;
+    }
+    answers.push(answer)?;
     Ok(())
 }
 
@@ -207,6 +138,12 @@ pub(crate) fn keep_term_answer<I: Interner, R: TypeRelation<I>>(
 {
     let answer = in_part::<I, PartOf<I>>(place, related)?;
     let cx = r.cx();
-    add_term_answer(cx, term, i, x, answer, answers)?;
+    if answers.is_empty() {
+        if is_same(cx, x, &answer) {
+            return Ok(());
+        }
+        *answers = first_members(cx, &parts_of(cx, term), i)?;
+    }
+    answers.push(answer)?;
     Ok(())
 }

@@ -1,17 +1,16 @@
-//! The parts that are related of terms: of types and constants as generic arguments.
-ghost use Rattle.std.specs.Prelude.{◌≡◌, ◌↔◌, ◌<◌, IsTrue};
+//! The parts that are related of terms.
+ghost use Rattle.std.specs.Prelude.{◌≡◌, ◌↔◌, IsTrue};
 ghost use Rattle.relation_terms.specs.Heads.{object_sort};
-ghost use Rattle.relation_terms.specs.Trees.{known, count, nth, IsList};
-ghost use Rattle.relation_terms.specs.Meaning.{arg_tree, kind_tree};
+ghost use Rattle.relation_terms.specs.Trees.{known, count, IsList};
+ghost use Rattle.relation_terms.specs.Meaning.{kind_tree};
 ghost use Rattle.relation_terms.specs.Parts.{part_tree, part_sort, parts_tree, parts_of as list_of_parts};
 ghost use Rattle.relation_terms.specs.declared.terms.part_kind.Part.TheVariants.{Object as ObjectPart};
 ghost use Rattle.relation_semantics.specs.Parts.{direct_parts, const_parts_of, IsByParts, IsArgPart, IsBinderPart};
 ghost use Rattle.relation_recursion.specs.declared.parts.PartKind.TheVariants.{Argument, Binder};
 
-use relation_terms::terms::parts::{expect_arg, member, member_count, ty_parts};
+use relation_terms::terms::parts::{member_count, ty_parts};
 use relation_terms::terms::{
-    Const, ConstKind, ExistentialPredicatesKey, GenericArg, Interner, Part, PartOf, PartsOf, Ty,
-    TyForm, TyKind, parts,
+    Const, ConstKind, ExistentialPredicatesKey, Interner, Part, PartOf, PartsOf, Ty, TyForm, TyKind,
 };
 
 // Of which kind a part is, as far as relating looks at it.
@@ -95,20 +94,8 @@ pub(crate) fn is_by_parts<I: Interner>(cx: &I, ty: &Ty<I>) -> bool
     }
 }
 
-// The part of a type at a place. Places count from 0, in the order in which parts are related.
-#[inline(always)]
-pub(crate) fn part<I: Interner>(cx: &I, ty: &Ty<I>, i: usize) -> GenericArg<I>
-    requires ty_known { IsTrue (known ((I.meaning cx.now).ty ty.now)) }
-    requires over_args { IsByParts ((I.meaning cx.now).ty ty.now) → ⊥ }
-    requires in_bounds { i < count (direct_parts ((I.meaning cx.now).ty ty.now)) }
-    ensures sure { IsTrue (known (arg_tree (I.meaning cx.now) result)) }
-    ensures means { arg_tree (I.meaning cx.now) result ≡ nth i (direct_parts ((I.meaning cx.now).ty ty.now)) }
-{
-    expect_arg(&member(cx, &parts_in(cx, ty, &cx.ty_kind(ty)), i))
-}
-
 // The term whose parts are those of a constant that are related: of a value its value tree, and not its type.
-fn related_part<I: Interner>(cx: &I, constant: &Const<I>) -> PartOf<I>
+pub(crate) fn related_part<I: Interner>(cx: &I, constant: &Const<I>) -> PartOf<I>
     requires { IsTrue (known ((I.meaning cx.now).const_ constant.now)) }
     ensures sure { IsTrue (known (part_tree (I.meaning cx.now) result)) }
     ensures parts { let m = I.meaning cx.now in
@@ -118,44 +105,4 @@ fn related_part<I: Interner>(cx: &I, constant: &Const<I>) -> PartOf<I>
         ConstKind::Value(_, value) => Part::ValTree(value),
         _ => Part::Const(*constant),
     }
-}
-
-// How many parts of a constant are related.
-pub(crate) fn const_parts_count<I: Interner>(cx: &I, constant: &Const<I>) -> usize
-    requires { IsTrue (known ((I.meaning cx.now).const_ constant.now)) }
-    ensures counts { result ≡ count (const_parts_of ((I.meaning cx.now).const_ constant.now)) }
-    ensures is_list { IsList (const_parts_of ((I.meaning cx.now).const_ constant.now)) }
-{
-    parts::parts_count(cx, &related_part(cx, constant))
-}
-
-// The part of a constant at a place. Places count from 0, in the order in which parts are related.
-pub(crate) fn const_part<I: Interner>(cx: &I, constant: &Const<I>, i: usize) -> GenericArg<I>
-    requires constant_known { IsTrue (known ((I.meaning cx.now).const_ constant.now)) }
-    requires in_bounds { i < count (const_parts_of ((I.meaning cx.now).const_ constant.now)) }
-    ensures sure { IsTrue (known (arg_tree (I.meaning cx.now) result)) }
-    ensures means { let m = I.meaning cx.now in arg_tree m result ≡ nth i (const_parts_of (m.const_ constant.now)) }
-{
-    expect_arg(&parts::part(cx, &related_part(cx, constant), i))
-}
-
-// How many parts a term has that is related by its parts.
-pub(crate) fn term_parts_count<I: Interner>(cx: &I, term: &PartOf<I>) -> usize
-    requires known { IsTrue (known (part_tree (I.meaning cx.now) term.now)) }
-    requires form { IsByParts (part_tree (I.meaning cx.now) term.now) }
-    ensures { result ≡ count (direct_parts (part_tree (I.meaning cx.now) term.now)) }
-{
-    parts::parts_count(cx, term)
-}
-
-// The part of such a term at a place.
-pub(crate) fn term_part<I: Interner>(cx: &I, term: &PartOf<I>, i: usize) -> PartOf<I>
-    requires term_known { IsTrue (known (part_tree (I.meaning cx.now) term.now)) }
-    requires form { IsByParts (part_tree (I.meaning cx.now) term.now) }
-    requires in_bounds { i < count (direct_parts (part_tree (I.meaning cx.now) term.now)) }
-    ensures sure { IsTrue (known (part_tree (I.meaning cx.now) result)) }
-    ensures means { part_tree (I.meaning cx.now) result ≡
-        nth i (direct_parts (part_tree (I.meaning cx.now) term.now)) }
-{
-    parts::part(cx, term, i)
 }

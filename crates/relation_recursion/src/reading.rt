@@ -5,24 +5,21 @@ ghost use Rattle.term_enums.specs.declared.Variance.TheVariants.{Bivariant};
 ghost use Rattle.relation_terms.specs.Meaning.{arg_tree};
 ghost use Rattle.relation_terms.specs.Parts.{part_tree, part_sort};
 ghost use Rattle.relation_semantics.specs.Relation.{IsError};
-ghost use Rattle.relation_semantics.specs.Errors.{FormError, ConstFormError, AreOfOneForm, AreOfOneConst};
-ghost use Rattle.relation_semantics.specs.Errors.{HaveNoError};
+ghost use Rattle.relation_semantics.specs.Errors.{ConstFormError, AreOfOneForm, AreOfOneConst, HaveNoError};
 ghost use Rattle.relation_semantics.specs.Parts.{IsFormedConst, IsByParts, IsComparedPart, direct_parts, const_parts_of};
 ghost use Rattle.relation_steps.specs.Keyed.{ShownTys, NotedTys, TysAskOpen, AreOver};
 ghost use Rattle.relation_steps.specs.Terms.{AskedTerms};
 ghost use Rattle.relation_recursion.specs.Comparing.{AreOfOneFormBy, PartsDiffer, nth_part, nth_const_part};
-ghost use Rattle.relation_recursion.specs.Starting.{Starts};
 ghost use Rattle.part_variances.specs.PartErrors.{named_place};
 
 use crate::comparing::{compare_consts, compare_members, compare_parts};
-use crate::forms::is_error_const;
-use crate::parts::{const_part, const_parts_count, part, term_part, term_parts_count};
-use crate::starting::{Start, begin};
+use crate::parts::{parts_in, related_part};
 use part_variances::part_errors;
 use relation_folds::error::{RelateResult, TypeErrorOf};
 use relation_steps::type_relation::TypeRelation;
+use relation_terms::terms::parts::{expect_arg, member};
 use relation_terms::terms::{
-    Const, DefId, GenericArg, GenericArgs, Interner, ItemOf, PartOf, Ty, TyKind,
+    Const, ConstKind, DefId, GenericArg, GenericArgs, Interner, ItemOf, PartOf, Ty, TyKind, parts,
 };
 
 // Whether a constant stands for an error.
@@ -30,22 +27,10 @@ pub(crate) fn is_error_const_of<I: Interner, R: TypeRelation<I>>(r: &R, constant
     requires { IsTrue (known ((R.state r.now).meaning.const_ constant.now)) }
     ensures { IsTrue result ↔ IsError ((R.state r.now).meaning.const_ constant.now) }
 {
-    is_error_const(r.cx(), constant)
-}
-
-// How relating two types begins, or why they are not of one form.
-#[inline(always)]
-pub(crate) fn start_of<I: Interner, R: TypeRelation<I>>(
-    r: &R,
-    a: &Ty<I>,
-    b: &Ty<I>,
-) -> Result<Start, TypeErrorOf<I>>
-    requires a_known { IsTrue (known ((R.state r.now).meaning.ty a.now)) }
-    requires b_known { IsTrue (known ((R.state r.now).meaning.ty b.now)) }
-    ensures starts { IfOk result (Starts (R.state r.now).meaning a.now b.now) }
-    ensures errors { IfErr result (FormError (R.state r.now).meaning a.now b.now) }
-{
-    begin(r.cx(), a, b)
+    match r.cx().const_kind(constant) {
+        ConstKind::Error(_) => true,
+        _ => false,
+    }
 }
 
 pub(crate) fn compare_consts_of<I: Interner, R: TypeRelation<I>>(
@@ -95,6 +80,7 @@ pub(crate) fn compare_members_of<I: Interner, R: TypeRelation<I>>(
     compare_members(r.cx(), a, b, i)
 }
 
+// The part of a type at a place. Places count from 0, in the order in which parts are related.
 #[inline(always)]
 pub(crate) fn part_of<I: Interner, R: TypeRelation<I>>(r: &R, ty: &Ty<I>, i: usize) -> GenericArg<I>
     requires ty_known { IsTrue (known ((R.state r.now).meaning.ty ty.now)) }
@@ -103,7 +89,8 @@ pub(crate) fn part_of<I: Interner, R: TypeRelation<I>>(r: &R, ty: &Ty<I>, i: usi
     ensures sure { IsTrue (known (arg_tree (R.state r.now).meaning result)) }
     ensures means { arg_tree (R.state r.now).meaning result ≡ nth i (direct_parts ((R.state r.now).meaning.ty ty.now)) }
 {
-    part(r.cx(), ty, i)
+    let cx = r.cx();
+    expect_arg(&member(cx, &parts_in(cx, ty, &cx.ty_kind(ty)), i))
 }
 
 pub(crate) fn const_parts_count_of<I: Interner, R: TypeRelation<I>>(
@@ -114,7 +101,8 @@ pub(crate) fn const_parts_count_of<I: Interner, R: TypeRelation<I>>(
     ensures counts { result ≡ count (const_parts_of ((R.state r.now).meaning.const_ constant.now)) }
     ensures is_list { IsList (const_parts_of ((R.state r.now).meaning.const_ constant.now)) }
 {
-    const_parts_count(r.cx(), constant)
+    let cx = r.cx();
+    parts::parts_count(cx, &related_part(cx, constant))
 }
 
 pub(crate) fn const_part_of<I: Interner, R: TypeRelation<I>>(
@@ -127,7 +115,8 @@ pub(crate) fn const_part_of<I: Interner, R: TypeRelation<I>>(
     ensures sure { IsTrue (known (arg_tree (R.state r.now).meaning result)) }
     ensures means { let m = (R.state r.now).meaning in arg_tree m result ≡ nth_const_part m i constant.now }
 {
-    const_part(r.cx(), constant, i)
+    let cx = r.cx();
+    expect_arg(&parts::part(cx, &related_part(cx, constant), i))
 }
 
 pub(crate) fn term_parts_count_of<I: Interner, R: TypeRelation<I>>(r: &R, term: &PartOf<I>) -> usize
@@ -135,7 +124,7 @@ pub(crate) fn term_parts_count_of<I: Interner, R: TypeRelation<I>>(r: &R, term: 
     requires form { IsByParts (part_tree (R.state r.now).meaning term.now) }
     ensures { result ≡ count (direct_parts (part_tree (R.state r.now).meaning term.now)) }
 {
-    term_parts_count(r.cx(), term)
+    parts::parts_count(r.cx(), term)
 }
 
 pub(crate) fn term_part_of<I: Interner, R: TypeRelation<I>>(
@@ -149,7 +138,7 @@ pub(crate) fn term_part_of<I: Interner, R: TypeRelation<I>>(
     ensures sure { IsTrue (known (part_tree (R.state r.now).meaning result)) }
     ensures means { let m = (R.state r.now).meaning in part_tree m result ≡ nth_part m i term.now }
 {
-    term_part(r.cx(), term, i)
+    parts::part(r.cx(), term, i)
 }
 
 // The place that an error of the parts of two terms at place `i` names.

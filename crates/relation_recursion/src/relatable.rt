@@ -31,10 +31,10 @@ use relation_terms::terms::{
 /// What is related of it is its tree, or of a list a form over its tree, which the ghost member `over` names.
 pub trait Relate<I: Interner>: TypeFoldable<I> + PartialEq + Copy {
     // The form over its tree that is related, where that is not the tree itself.
-    ghost over: { Option Head };
+    ghost over: { Option Head } = { None };
 
     // What is asked of the two besides.
-    ghost fits: { Meaning I.Key I.Id I.Name → Self → Self → Type 0 };
+    ghost fits: { Meaning I.Key I.Id I.Name → Self → Self → Type 0 } = { λ m a b. Unit {0} };
 
     /// Relates the two at the ambient variance, and answers what the relation may answer for the left one: a term that
     /// it is related with there, under each assignment that the relation left.
@@ -63,10 +63,6 @@ pub trait Relate<I: Interner>: TypeFoldable<I> + PartialEq + Copy {
 }
 
 impl<I: Interner> Relate<I> for TyKey<I::Key> {
-    ghost over = { None };
-
-    ghost fits = { λ m a b. Unit {0} };
-
     fn relate<R: TypeRelation<I>>(r: &mut R, a: &Self, b: &Self) -> RelateResult<I, Self> {
         tys(r, a, b)
     }
@@ -79,10 +75,6 @@ impl<I: Interner> Relate<I> for TyKey<I::Key> {
 }
 
 impl<I: Interner> Relate<I> for RegionKey<I::Key> {
-    ghost over = { None };
-
-    ghost fits = { λ m a b. Unit {0} };
-
     fn relate<R: TypeRelation<I>>(r: &mut R, a: &Self, b: &Self) -> RelateResult<I, Self> {
         r.regions(a, b)
     }
@@ -95,10 +87,6 @@ impl<I: Interner> Relate<I> for RegionKey<I::Key> {
 }
 
 impl<I: Interner> Relate<I> for ConstKey<I::Key> {
-    ghost over = { None };
-
-    ghost fits = { λ m a b. Unit {0} };
-
     fn relate<R: TypeRelation<I>>(r: &mut R, a: &Self, b: &Self) -> RelateResult<I, Self> {
         consts(r, a, b)
     }
@@ -111,10 +99,6 @@ impl<I: Interner> Relate<I> for ConstKey<I::Key> {
 }
 
 impl<I: Interner> Relate<I> for PatKey<I::Key> {
-    ghost over = { None };
-
-    ghost fits = { λ m a b. Unit {0} };
-
     fn relate<R: TypeRelation<I>>(r: &mut R, a: &Self, b: &Self) -> RelateResult<I, Self> {
         pats(r, a, b)
     }
@@ -127,10 +111,6 @@ impl<I: Interner> Relate<I> for PatKey<I::Key> {
 }
 
 impl<I: Interner> Relate<I> for GenericArgKind<I::Key> {
-    ghost over = { None };
-
-    ghost fits = { λ m a b. Unit {0} };
-
     fn relate<R: TypeRelation<I>>(r: &mut R, a: &Self, b: &Self) -> RelateResult<I, Self> {
         relate(r, a, b)
     }
@@ -162,10 +142,6 @@ impl<I: Interner> Relate<I> for ArgsKey<I::Key> {
 }
 
 impl<I: Interner> Relate<I> for TermKind<I::Key> {
-    ghost over = { None };
-
-    ghost fits = { λ m a b. Unit {0} };
-
     /// Two of different kinds are `Mismatch`.
     fn relate<R: TypeRelation<I>>(r: &mut R, a: &Self, b: &Self) -> RelateResult<I, Self> {
         match a {

@@ -10,6 +10,7 @@ use crate::forms::is_error;
 use crate::parts::{is_by_parts, parts_count};
 use relation_folds::error::TypeErrorOf;
 use relation_semantics::variances::alias_item;
+use relation_steps::type_relation::TypeRelation;
 use relation_terms::terms::{GenericArgs, Interner, Ty, TyForm, TyKind, Tys};
 
 // What two types are to relating.
@@ -150,14 +151,19 @@ fn start_of_any<I: Interner>(cx: &I, a: &Ty<I>, b: &Ty<I>) -> Result<Start, Type
     }
 }
 
-// The same, by the forms of both alone where these are met most.
+// The same in a relation's words, by the forms of both alone where these are met most.
 #[inline(always)]
-pub(crate) fn begin<I: Interner>(cx: &I, a: &Ty<I>, b: &Ty<I>) -> Result<Start, TypeErrorOf<I>>
-    requires a_known { IsTrue (known ((I.meaning cx.now).ty a.now)) }
-    requires b_known { IsTrue (known ((I.meaning cx.now).ty b.now)) }
-    ensures starts { IfOk result (Starts (I.meaning cx.now) a.now b.now) }
-    ensures errors { IfErr result (FormError (I.meaning cx.now) a.now b.now) }
+pub(crate) fn start_of<I: Interner, R: TypeRelation<I>>(
+    r: &R,
+    a: &Ty<I>,
+    b: &Ty<I>,
+) -> Result<Start, TypeErrorOf<I>>
+    requires a_known { IsTrue (known ((R.state r.now).meaning.ty a.now)) }
+    requires b_known { IsTrue (known ((R.state r.now).meaning.ty b.now)) }
+    ensures starts { IfOk result (Starts (R.state r.now).meaning a.now b.now) }
+    ensures errors { IfErr result (FormError (R.state r.now).meaning a.now b.now) }
 {
+    let cx = r.cx();
     let a_kind = cx.ty_kind(a);
     let b_kind = cx.ty_kind(b);
     match plain_count(cx, &a_kind, &b_kind) {

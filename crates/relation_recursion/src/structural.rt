@@ -23,9 +23,9 @@ use crate::opening::{is_same_of, open_bodies};
 use crate::parts::{PartKind, expect_object, kind_of_part};
 use crate::reading::{
     compare_consts_of, compare_members_of, compare_parts_of, const_part_of, const_parts_count_of,
-    is_error_const_of, named_place_of, note_args, part_of, start_of, term_part_of,
-    term_parts_count_of,
+    is_error_const_of, named_place_of, note_args, part_of, term_part_of, term_parts_count_of,
 };
+use crate::starting::start_of;
 use part_variances::variances::{const_variance_at, is_skipped, term_variance_at, variance_at};
 use relation_folds::error::{RelateFault, RelateResult, TypeError};
 use relation_semantics::relate::Step;

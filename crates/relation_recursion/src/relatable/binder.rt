@@ -1,5 +1,5 @@
 //! Relating binders over whatever can be related.
-ghost use Rattle.std.proofs.Common.{None, refl};
+ghost use Rattle.std.proofs.Common.{refl};
 ghost use Rattle.relation_terms.proofs.Stays.{extends_on};
 ghost use Rattle.relation_recursion.specs.Bodies.{BodiesFit};
 ghost use Rattle.relation_recursion.specs.EqualForms.{binder_same};
@@ -13,8 +13,6 @@ use relation_terms::terms::{Binder, Interner};
 /// Of bodies that are related by their tree, and not by a form over it as lists are, and of which nothing is asked
 /// besides: as types, signatures, predicates of trait objects, and binders over these.
 impl<I: Interner, T: Relate<I> + TypeVisitable<I>> Relate<I> for Binder<I::Key, T> {
-    ghost over = { None };
-
     ghost fits = { λ m a b. BodiesFit T.over T.fits T.tree m };
 
     /// Two that are equal are not opened. Others are related by their bodies, as the relation opens them: at

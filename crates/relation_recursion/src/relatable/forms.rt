@@ -1,5 +1,5 @@
 //! Relating forms that have no key: signatures and predicates of trait objects, and lists of these.
-ghost use Rattle.std.specs.Prelude.{Some, None};
+ghost use Rattle.std.specs.Prelude.{Some};
 ghost use Rattle.std.proofs.Common.{refl};
 ghost use Rattle.relation_terms.specs.Heads.{object};
 ghost use Rattle.relation_recursion.specs.EqualForms.{signature_same, predicate_same, trait_same, projection_same};
@@ -12,10 +12,6 @@ use relation_terms::predicate::{ExistentialPredicate, ExistentialProjection, Exi
 use relation_terms::terms::{ExistentialPredicatesKey, FnSig, Interner};
 
 impl<I: Interner> Relate<I> for FnSig<I::Key> {
-    ghost over = { None };
-
-    ghost fits = { λ m a b. Unit {0} };
-
     /// The inputs in order, contravariantly, then the output. Signatures that differ besides their types are
     /// `VariadicMismatch`, `SafetyMismatch`, `AbiMismatch` or `ArgCount`, by the first in which they differ.
     fn relate<R: TypeRelation<I>>(r: &mut R, a: &Self, b: &Self) -> RelateResult<I, Self> {
@@ -30,10 +26,6 @@ impl<I: Interner> Relate<I> for FnSig<I::Key> {
 }
 
 impl<I: Interner> Relate<I> for ExistentialPredicate<I::Key, I::Id> {
-    ghost over = { None };
-
-    ghost fits = { λ m a b. Unit {0} };
-
     /// Two of different forms are `Mismatch`, two auto traits that differ are `Traits`. Of traits and projections this
     /// is the `relate` of these.
     fn relate<R: TypeRelation<I>>(r: &mut R, a: &Self, b: &Self) -> RelateResult<I, Self> {
@@ -51,10 +43,6 @@ impl<I: Interner> Relate<I> for ExistentialPredicate<I::Key, I::Id> {
 }
 
 impl<I: Interner> Relate<I> for ExistentialTraitRef<I::Key, I::Id> {
-    ghost over = { None };
-
-    ghost fits = { λ m a b. Unit {0} };
-
     /// Two of different traits are `Traits`, and two with unlike numbers of arguments `Mismatch`. The arguments are
     /// related pair by pair, invariantly.
     fn relate<R: TypeRelation<I>>(r: &mut R, a: &Self, b: &Self) -> RelateResult<I, Self> {
@@ -75,10 +63,6 @@ impl<I: Interner> Relate<I> for ExistentialTraitRef<I::Key, I::Id> {
 }
 
 impl<I: Interner> Relate<I> for ExistentialProjection<I::Key, I::Id> {
-    ghost over = { None };
-
-    ghost fits = { λ m a b. Unit {0} };
-
     /// Two of different items are `ProjectionMismatched`, and two with unlike numbers of arguments `Mismatch`. The
     /// terms are related first, then the arguments pair by pair, all of them invariantly.
     fn relate<R: TypeRelation<I>>(r: &mut R, a: &Self, b: &Self) -> RelateResult<I, Self> {
@@ -101,8 +85,6 @@ impl<I: Interner> Relate<I> for ExistentialProjection<I::Key, I::Id> {
 
 impl<I: Interner> Relate<I> for ExistentialPredicatesKey<I::Key> {
     ghost over = { Some object };
-
-    ghost fits = { λ m a b. Unit {0} };
 
     /// Pair by pair, as they are stored, each under its binder. Two of unlike lengths, or with predicates of different
     /// forms at a place, are `ExistentialMismatch`.

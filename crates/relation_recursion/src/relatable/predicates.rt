@@ -1,11 +1,8 @@
 //! Relating trait references, predicates of traits, and aliases.
-ghost use Rattle.std.specs.Prelude.{◌≡◌, ◌≢◌, IsTrue, IfOk, OnOk, IfErr, None};
+ghost use Rattle.std.specs.Prelude.{◌≡◌, ◌≢◌, IfOk, None};
 ghost use Rattle.std.proofs.Common.{refl};
 ghost use Rattle.term_enums.specs.declared.Variance.TheVariants.{Bivariant};
-ghost use Rattle.relation_terms.specs.Trees.{known};
 ghost use Rattle.relation_terms.specs.Predicates.{alias_term_tree, trait_ref_tree};
-ghost use Rattle.relation_recursion.specs.Comparing.{AliasTermsDiffer, AreOfOneAliasTerm, AreOfOneTraitRef};
-ghost use Rattle.relation_recursion.specs.Comparing.{TraitRefsDiffer};
 ghost use Rattle.relation_recursion.specs.EqualItems.{trait_ref_same, trait_clause_same, alias_term_same};
 ghost use Rattle.relation_recursion.specs.EqualItems.{kinds_declared, alias_ty_same, ty_kinds_declared};
 ghost use Rattle.relation_steps.specs.Terms.{AskedTerms, RelatedTerms};
@@ -13,38 +10,11 @@ ghost use Rattle.relation_steps.specs.Terms.{AskedTerms, RelatedTerms};
 use crate::args::relate_args;
 use crate::comparing::{compare_alias_terms, compare_trait_refs};
 use crate::relatable::Relate;
-use relation_folds::error::{ExpectedFound, RelateFault, RelateResult, TypeError, TypeErrorOf};
+use relation_folds::error::{ExpectedFound, RelateFault, RelateResult, TypeError};
 use relation_steps::arguments::ArgVariances;
 use relation_steps::type_relation::TypeRelation;
 use relation_terms::predicate::{AliasTerm, TraitPredicate, TraitRef};
 use relation_terms::terms::{AliasTy, Interner};
-
-// The same, in a relation's words.
-fn compare_trait_refs_of<I: Interner, R: TypeRelation<I>>(
-    r: &R,
-    a: &TraitRef<I::Key, I::Id>,
-    b: &TraitRef<I::Key, I::Id>,
-) -> Result<(), TypeErrorOf<I>>
-    requires a_known { IsTrue (known (trait_ref_tree (R.state r.now).meaning a.now)) }
-    requires b_known { IsTrue (known (trait_ref_tree (R.state r.now).meaning b.now)) }
-    ensures alike { OnOk result (AreOfOneTraitRef (R.state r.now).meaning a.now b.now) }
-    ensures errors { IfErr result (TraitRefsDiffer (R.state r.now).meaning a.now b.now) }
-{
-    compare_trait_refs(r.cx(), a, b)
-}
-
-fn compare_alias_terms_of<I: Interner, R: TypeRelation<I>>(
-    r: &R,
-    a: &AliasTerm<I::Key, I::Id>,
-    b: &AliasTerm<I::Key, I::Id>,
-) -> Result<(), TypeErrorOf<I>>
-    requires a_known { IsTrue (known (alias_term_tree (R.state r.now).meaning a.now)) }
-    requires b_known { IsTrue (known (alias_term_tree (R.state r.now).meaning b.now)) }
-    ensures alike { OnOk result (AreOfOneAliasTerm (R.state r.now).meaning a.now b.now) }
-    ensures errors { IfErr result (AliasTermsDiffer (R.state r.now).meaning a.now b.now) }
-{
-    compare_alias_terms(r.cx(), a, b)
-}
 
 // Relates two trait references, and answers the left one's trait over what the arguments answered.
 fn trait_refs<I: Interner, R: TypeRelation<I>>(
@@ -57,7 +27,7 @@ fn trait_refs<I: Interner, R: TypeRelation<I>>(
     requires asked { AskedTerms R.manner None trait_ref_tree (R.state r.old) a.now b.now }
     ensures { RelatedTerms R.manner None trait_ref_tree (R.state r.old) (R.state r.new) a.now b.now result }
 {
-    compare_trait_refs_of::<I, R>(r, a, b)?;
+    compare_trait_refs(r.cx(), a, b)?;
     let args = relate_args(r, &ArgVariances::Trait(a.def_id), &a.args, &b.args)?;
     Ok(TraitRef {
         def_id: a.def_id,
@@ -77,16 +47,12 @@ fn alias_terms<I: Interner, R: TypeRelation<I>>(
     ensures related { RelatedTerms R.manner None alias_term_tree (R.state r.old) (R.state r.new) a.now b.now result }
     ensures kind { IfOk result (λ t. t.kind ≡ (a.now).kind) }
 {
-    compare_alias_terms_of::<I, R>(r, a, b)?;
+    compare_alias_terms(r.cx(), a, b)?;
     let args = relate_args(r, &ArgVariances::AliasTerm(a.kind), &a.args, &b.args)?;
     Ok(AliasTerm { kind: a.kind, args })
 }
 
 impl<I: Interner> Relate<I> for TraitRef<I::Key, I::Id> {
-    ghost over = { None };
-
-    ghost fits = { λ m a b. Unit {0} };
-
     /// Two of different traits are `Traits`, and two with unlike numbers of arguments `Mismatch`. The arguments are
     /// related pair by pair, invariantly.
     fn relate<R: TypeRelation<I>>(r: &mut R, a: &Self, b: &Self) -> RelateResult<I, Self> {
@@ -102,10 +68,6 @@ impl<I: Interner> Relate<I> for TraitRef<I::Key, I::Id> {
 }
 
 impl<I: Interner> Relate<I> for AliasTerm<I::Key, I::Id> {
-    ghost over = { None };
-
-    ghost fits = { λ m a b. Unit {0} };
-
     /// Two of different items are `ProjectionMismatched`, as are two of one that are not both of an opaque type or both of
     /// none, and two with unlike numbers of arguments `Mismatch`. The arguments are related pair by pair: of an opaque
     /// type at the variances that its item declares, of all others invariantly.
@@ -122,10 +84,6 @@ impl<I: Interner> Relate<I> for AliasTerm<I::Key, I::Id> {
 }
 
 impl<I: Interner> Relate<I> for AliasTy<I::Key, I::Id> {
-    ghost over = { None };
-
-    ghost fits = { λ m a b. Unit {0} };
-
     /// They are related as the alias terms that they are, and refused as these.
     fn relate<R: TypeRelation<I>>(r: &mut R, a: &Self, b: &Self) -> RelateResult<I, Self> {
         let left = AliasTerm::from(*a);
@@ -146,10 +104,6 @@ impl<I: Interner> Relate<I> for AliasTy<I::Key, I::Id> {
 }
 
 impl<I: Interner> Relate<I> for TraitPredicate<I::Key, I::Id> {
-    ghost over = { None };
-
-    ghost fits = { λ m a b. Unit {0} };
-
     /// The trait references are related first. Where they are, two of unlike polarities are `PolarityMismatch`; what was
     /// bound on the way stays bound.
     fn relate<R: TypeRelation<I>>(r: &mut R, a: &Self, b: &Self) -> RelateResult<I, Self> {

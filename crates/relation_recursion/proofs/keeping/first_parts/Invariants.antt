@@ -6,5 +6,5 @@ use Rattle.relation_recursion.proofs.keeping.first_parts.Given as goal
 
 abbrev pub invariant-loop-i : goal.invariant-loop-i
 invariant-loop-i g l =
-    let m = g.I.Interner.meaning l.cx in
+    let m = (g.R.HasState.state l.r).meaning in
     record { firsts : AreFirstParts (arg_tree m) FitArgs l.i (direct_parts (m.ty l.ty)) l.list.items }
