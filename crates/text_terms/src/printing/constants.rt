@@ -38,6 +38,7 @@ fn own_size<X, D, N>(ty: &TyKind<X, D, N>) -> Option<u8>
     }
 }
 
+#[tactic(auto, using(crate::proofs::Parts::size_part, crate::proofs::Parts::known_part))]
 impl<'a, I: Interner> Under<'a, I> {
     /// Writes a constant under binders: a value with its type behind it, unless that is `usize`. The interner has to know
     /// the constant.
@@ -45,7 +46,6 @@ impl<'a, I: Interner> Under<'a, I> {
     /// # Errors
     /// `fmt::Error` where `out` refused to take some of the text. What it took before stands.
     #[cycle(write_ty)]
-    #[tactic(auto, using(crate::proofs::Parts::size_part, crate::proofs::Parts::known_part))]
     pub fn write_const<W: Write>(&self, constant: &Const<I>, out: &mut W) -> fmt::Result
         requires { IsTrue (known ((I.meaning self.now.cx.now).const_ constant.now)) }
     {
@@ -69,7 +69,6 @@ impl<'a, I: Interner> Under<'a, I> {
 
     // Writes an expression: the number of its operation, and its arguments, which may be of any sort.
     #[cycle(write_ty)]
-    #[tactic(auto, using(crate::proofs::Parts::size_part, crate::proofs::Parts::known_part))]
     fn write_expression<W: Write>(
         &self,
         kind: ExprKind,
@@ -90,7 +89,6 @@ impl<'a, I: Interner> Under<'a, I> {
     // Writes a value, with its type behind it: `2u8`. That of a number alone, `usize`, is left out. The size of a number
     // stands behind that if it is not its type's, as in `2u8 in 8`: then no text is read as the value.
     #[cycle(write_ty)]
-    #[tactic(auto, using(crate::proofs::Parts::size_part, crate::proofs::Parts::known_part))]
     fn write_value<W: Write>(&self, ty: &Ty<I>, value: &ValTree<I>, out: &mut W) -> fmt::Result
         requires ty { IsTrue (known ((I.meaning self.now.cx.now).ty ty.now)) }
         requires value { IsTrue (known ((I.meaning self.now.cx.now).valtree value.now)) }
@@ -110,7 +108,6 @@ impl<'a, I: Interner> Under<'a, I> {
 
     // Writes what a value is: a leaf's bits as a number, or the constants that it is made of, in braces.
     #[cycle(write_ty)]
-    #[tactic(auto, using(crate::proofs::Parts::size_part, crate::proofs::Parts::known_part))]
     fn write_valtree<W: Write>(&self, value: &ValTree<I>, out: &mut W) -> fmt::Result
         requires { IsTrue (known ((I.meaning self.now.cx.now).valtree value.now)) }
     {

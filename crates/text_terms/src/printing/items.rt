@@ -38,6 +38,7 @@ pub(super) fn over_args<X: Copy, D: Copy, N>(kind: &TyKind<X, D, N>) -> Option<(
     }
 }
 
+#[tactic(auto, using(crate::proofs::Parts::size_part, crate::proofs::Parts::known_part))]
 impl<'a, I: Interner> Under<'a, I> {
     /// Writes an item over its arguments under binders: an associated item of a trait by the trait, any other by its name.
     /// The interner has to know the arguments.
@@ -45,7 +46,6 @@ impl<'a, I: Interner> Under<'a, I> {
     /// # Errors
     /// `fmt::Error` where `out` refused to take some of the text. What it took before stands.
     #[cycle(write_ty)]
-    #[tactic(auto, using(crate::proofs::Parts::size_part, crate::proofs::Parts::known_part))]
     pub fn write_item<W: Write>(
         &self,
         id: &I::Id,
@@ -67,7 +67,6 @@ impl<'a, I: Interner> Under<'a, I> {
 
     // Writes what stands before the name of an associated item: the type that its trait is of, and the trait.
     #[cycle(write_ty)]
-    #[tactic(auto, using(crate::proofs::Parts::size_part, crate::proofs::Parts::known_part))]
     fn write_associated<W: Write>(
         &self,
         of: TraitText,
@@ -89,7 +88,6 @@ impl<'a, I: Interner> Under<'a, I> {
     /// # Errors
     /// `fmt::Error` where `out` refused to take some of the text. What it took before stands.
     #[cycle(write_ty)]
-    #[tactic(auto, using(crate::proofs::Parts::size_part, crate::proofs::Parts::known_part))]
     pub fn write_named<W: Write>(
         &self,
         name: &str,
@@ -111,7 +109,6 @@ impl<'a, I: Interner> Under<'a, I> {
 
     // Writes the arguments from a place on, up to another, with commas between.
     #[cycle(write_ty)]
-    #[tactic(auto, using(crate::proofs::Parts::size_part, crate::proofs::Parts::known_part))]
     pub(super) fn write_args<W: Write>(
         &self,
         args: &GenericArgs<I>,

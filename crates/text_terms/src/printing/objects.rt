@@ -45,10 +45,10 @@ fn is_assigned<I: Interner>(cx: &I, of: &ObjectPredicate<I>, next: &ObjectPredic
     }
 }
 
+#[tactic(auto, using(crate::proofs::Parts::size_part, crate::proofs::Parts::known_part))]
 impl<'a, I: Interner> Under<'a, I> {
     // Writes a trait object: `dyn for<'a> Tr<'a, T, A = U> + Tr<..>::B<..> == V + Auto + 'r`.
     #[cycle(write_ty)]
-    #[tactic(auto, using(crate::proofs::Parts::size_part, crate::proofs::Parts::known_part))]
     pub(super) fn write_object<W: Write>(
         &self,
         predicates: &ExistentialPredicates<I>,
@@ -69,7 +69,6 @@ impl<'a, I: Interner> Under<'a, I> {
     // Writes the predicates of a trait object, with `+` between. What an associated item of a trait is stands in the
     // brackets of the trait where it can.
     #[cycle(write_ty)]
-    #[tactic(auto, using(crate::proofs::Parts::size_part, crate::proofs::Parts::known_part))]
     pub(super) fn write_object_predicates<W: Write>(
         &self,
         predicates: &ExistentialPredicates<I>,
@@ -116,7 +115,6 @@ impl<'a, I: Interner> Under<'a, I> {
 
     // Writes a trait over its arguments, and what its associated items are behind them: `Tr<T, A = U>`.
     #[cycle(write_ty)]
-    #[tactic(auto, using(crate::proofs::Parts::size_part, crate::proofs::Parts::known_part))]
     fn write_trait<W: Write>(
         &self,
         of: &ExistentialTraitRef<I::Key, I::Id>,
@@ -162,7 +160,6 @@ impl<'a, I: Interner> Under<'a, I> {
     // Writes what an associated item of a trait object's trait is: `Tr<T>::A == U`. The trait's arguments stand without the
     // type that implements it.
     #[cycle(write_ty)]
-    #[tactic(auto, using(crate::proofs::Parts::size_part, crate::proofs::Parts::known_part))]
     fn write_projection<W: Write>(
         &self,
         of: &ExistentialProjection<I::Key, I::Id>,

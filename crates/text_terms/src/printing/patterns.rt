@@ -7,11 +7,11 @@ use crate::printing::under::Under;
 use relation_terms::terms::{Alternatives, Interner, Pat, PatternKind, Ty, TyKind};
 use std::fmt::{self, Write};
 
+#[tactic(auto, using(crate::proofs::Parts::size_part, crate::proofs::Parts::known_part))]
 impl<'a, I: Interner> Under<'a, I> {
     // Writes the values of a type that a pattern admits: `T is P`. A pointer's target would take the pattern for its own,
     // so a pointer stands in brackets, and so does another such type.
     #[cycle(write_ty)]
-    #[tactic(auto, using(crate::proofs::Parts::size_part, crate::proofs::Parts::known_part))]
     pub(super) fn write_pattern_type<W: Write>(
         &self,
         base: &Ty<I>,
@@ -38,7 +38,6 @@ impl<'a, I: Interner> Under<'a, I> {
 
     // Writes a pattern.
     #[cycle(write_ty)]
-    #[tactic(auto, using(crate::proofs::Parts::size_part, crate::proofs::Parts::known_part))]
     fn write_pattern<W: Write>(&self, pat: &Pat<I>, out: &mut W) -> fmt::Result
         requires { IsTrue (known ((I.meaning self.now.cx.now).pat pat.now)) }
     {
@@ -56,7 +55,6 @@ impl<'a, I: Interner> Under<'a, I> {
     // Writes alternatives with `|` between. A lone one has a `|` before it, and one that has alternatives of its own stands
     // in brackets.
     #[cycle(write_ty)]
-    #[tactic(auto, using(crate::proofs::Parts::size_part, crate::proofs::Parts::known_part))]
     fn write_alternatives<W: Write>(
         &self,
         alternatives: &Alternatives<I>,
@@ -77,7 +75,6 @@ impl<'a, I: Interner> Under<'a, I> {
 
     // Writes one alternative.
     #[cycle(write_ty)]
-    #[tactic(auto, using(crate::proofs::Parts::size_part, crate::proofs::Parts::known_part))]
     fn write_alternative<W: Write>(&self, pat: &Pat<I>, out: &mut W) -> fmt::Result
         requires { IsTrue (known ((I.meaning self.now.cx.now).pat pat.now)) }
     {

@@ -14,13 +14,13 @@ use relation_terms::terms::{
 };
 use std::fmt::{self, Write};
 
+#[tactic(auto, using(crate::proofs::Parts::size_part, crate::proofs::Parts::known_part))]
 impl<'a, I: Interner> Under<'a, I> {
     /// Writes a type under binders. The interner has to know it.
     ///
     /// # Errors
     /// `fmt::Error` where `out` refused to take some of the text. What it took before stands.
     #[cycle(write_ty)]
-    #[tactic(auto, using(crate::proofs::Parts::size_part, crate::proofs::Parts::known_part))]
     pub fn write_ty<W: Write>(&self, ty: &Ty<I>, out: &mut W) -> fmt::Result
         requires { IsTrue (known ((I.meaning self.now.cx.now).ty ty.now)) }
     {
@@ -54,7 +54,6 @@ impl<'a, I: Interner> Under<'a, I> {
 
     // Writes an array type: its element's type and its length.
     #[cycle(write_ty)]
-    #[tactic(auto, using(crate::proofs::Parts::size_part, crate::proofs::Parts::known_part))]
     fn write_array<W: Write>(&self, element: &Ty<I>, length: &Const<I>, out: &mut W) -> fmt::Result
         requires element { IsTrue (known ((I.meaning self.now.cx.now).ty element.now)) }
         requires length { IsTrue (known ((I.meaning self.now.cx.now).const_ length.now)) }
@@ -82,7 +81,6 @@ impl<'a, I: Interner> Under<'a, I> {
 
     // Writes a tuple: a lone member has a comma behind it.
     #[cycle(write_ty)]
-    #[tactic(auto, using(crate::proofs::Parts::size_part, crate::proofs::Parts::known_part))]
     fn write_tuple<W: Write>(&self, members: &Tys<I>, out: &mut W) -> fmt::Result
         requires { IsTrue (known ((I.meaning self.now.cx.now).tys members.now)) }
     {
@@ -104,7 +102,6 @@ impl<'a, I: Interner> Under<'a, I> {
     /// # Errors
     /// `fmt::Error` where `out` refused to take some of the text. What it took before stands.
     #[cycle(write_ty)]
-    #[tactic(auto, using(crate::proofs::Parts::size_part, crate::proofs::Parts::known_part))]
     pub fn write_operand<W: Write>(&self, ty: &Ty<I>, out: &mut W) -> fmt::Result
         requires { IsTrue (known ((I.meaning self.now.cx.now).ty ty.now)) }
     {
@@ -123,7 +120,6 @@ impl<'a, I: Interner> Under<'a, I> {
     /// # Errors
     /// `fmt::Error` where `out` refused to take some of the text. What it took before stands.
     #[cycle(write_ty)]
-    #[tactic(auto, using(crate::proofs::Parts::size_part, crate::proofs::Parts::known_part))]
     pub fn write_term<W: Write>(&self, term: &Term<I>, out: &mut W) -> fmt::Result
         requires { IsTrue (known (term_tree (I.meaning self.now.cx.now) term.now)) }
     {
@@ -138,7 +134,6 @@ impl<'a, I: Interner> Under<'a, I> {
     /// # Errors
     /// `fmt::Error` where `out` refused to take some of the text. What it took before stands.
     #[cycle(write_ty)]
-    #[tactic(auto, using(crate::proofs::Parts::size_part, crate::proofs::Parts::known_part))]
     pub fn write_arg<W: Write>(&self, arg: &GenericArg<I>, out: &mut W) -> fmt::Result
         requires { IsTrue (known (arg_tree (I.meaning self.now.cx.now) arg.now)) }
     {
@@ -155,7 +150,6 @@ impl<'a, I: Interner> Under<'a, I> {
     /// # Errors
     /// `fmt::Error` where `out` refused to take some of the text. What it took before stands.
     #[cycle(write_ty)]
-    #[tactic(auto, using(crate::proofs::Parts::size_part, crate::proofs::Parts::known_part))]
     pub fn write_any_arg<W: Write>(&self, arg: &GenericArg<I>, out: &mut W) -> fmt::Result
         requires { IsTrue (known (arg_tree (I.meaning self.now.cx.now) arg.now)) }
     {
