@@ -14,7 +14,7 @@ use relation_terms::predicate::TraitRef;
 use relation_terms::terms::{Binder, Clause, Interner};
 use std::fmt::{self, Write};
 use text_terms::printing::TextsOf;
-use text_terms::printing::under::{Around, enter, free_letters, write_for};
+use text_terms::printing::under::{Under, free_letters};
 
 /// Writes a clause behind its binder: `for<'a> T: Tr<'a>`, `T: 'a`, `<T as Tr>::A == u8`, `WellFormed(T)`. A parameter
 /// or an item that has no text is `_`, a region parameter `'_`.
@@ -36,10 +36,10 @@ pub fn write_clause<I: Interner, W: Write>(
     let Binder { value, bound_vars } = cx.clause_kind(clause);
     let vars = cx.bound_vars(&bound_vars);
     let letters = free_letters(cx, texts, clause)?;
-    let outside = Around::Nothing(&letters);
-    write_for(vars, &outside, out)?;
-    let inside = enter(&outside, vars.len());
-    write_kind(cx, texts, &inside, &value, !vars.is_empty(), out)
+    let outside = Under::new(cx, texts, &letters);
+    outside.write_for(vars, out)?;
+    let inside = outside.enter(vars.len());
+    write_kind(&inside, &value, !vars.is_empty(), out)
 }
 
 /// Writes that a trait is implemented, behind its binder: `for<'a> T: Tr<'a>`.
@@ -60,10 +60,10 @@ pub fn write_bound<I: Interner, W: Write>(
 {
     let vars = cx.bound_vars(&bound.bound_vars);
     let letters = free_letters(cx, texts, bound)?;
-    let outside = Around::Nothing(&letters);
-    write_for(vars, &outside, out)?;
-    let inside = enter(&outside, vars.len());
-    write_implemented(cx, texts, &inside, &bound.value, "", !vars.is_empty(), out)
+    let outside = Under::new(cx, texts, &letters);
+    outside.write_for(vars, out)?;
+    let inside = outside.enter(vars.len());
+    write_implemented(&inside, &bound.value, "", !vars.is_empty(), out)
 }
 
 /// Writes that a trait is implemented, where no binder stands around that: `T: Tr<U>`.
@@ -82,5 +82,5 @@ pub fn write_trait_ref<I: Interner, W: Write>(
     requires { IsTrue (known (trait_ref_tree (I.meaning cx.now) of.now)) }
 {
     let letters = free_letters(cx, texts, of)?;
-    write_implemented(cx, texts, &Around::Nothing(&letters), of, "", false, out)
+    write_implemented(&Under::new(cx, texts, &letters), of, "", false, out)
 }

@@ -1,10 +1,11 @@
 //! How deep what a question comes to may be, so that the stack holds it.
 
 use crate::opening::opened_levels;
-use crate::parts::{Sought, level_at, levels_to, push_parts, push_range};
+use crate::parts::{Sought, level_at, levels_to, one, push_parts, push_range, push_said};
 use std::alloc::{AllocError, Global};
+use std::collections::BTreeSet;
 use text_reading::naming::{
-    Parts, Program, Question, QuestionKind, Says, Term, VariableId, VariableKind,
+    Parts, Program, Question, QuestionKind, Term, VariableId, VariableKind,
 };
 
 // How many terms with variables a chain may lead through, and by how many levels elaborating may make terms deeper.
@@ -25,22 +26,6 @@ fn relates(question: &Question) -> bool {
     )
 }
 
-// Adds the numbers of the terms of a predicate: its arguments, and what a trait's type comes to.
-fn push_said(program: &Program, number: usize, found: &mut Vec<usize>) -> Result<(), AllocError> {
-    let Some(clause) = program.clauses.get(number) else {
-        return Ok(());
-    };
-    match clause.says {
-        Says::Claims(_, _, args) => push_range(program, args, found)?,
-        Says::ComesTo(_, _, args, term) => {
-            push_range(program, args, found)?;
-            found.push(term)?;
-        }
-        _ => {}
-    }
-    Ok(())
-}
-
 // The numbers of the terms that are related.
 fn push_related(
     program: &Program,
@@ -54,44 +39,13 @@ fn push_related(
             push_range(program, *rhs, found)?;
         }
         QuestionKind::Overlap { left, right } => {
-            push_said(program, *left, found)?;
-            push_said(program, *right, found)?;
+            push_said(program, one(*left), found)?;
+            push_said(program, one(*right), found)?;
         }
-        QuestionKind::Prove { goal, .. } => push_said(program, *goal, found)?,
+        QuestionKind::Prove { goal, .. } => push_said(program, one(*goal), found)?,
         _ => {}
     }
     Ok(())
-}
-
-// Where a search through terms stands: those that were found so far, by the number of the search, and how many of them
-// are still to be gone through.
-#[derive(Drop)]
-struct Search {
-    marks: Vec<usize>,
-    search: usize,
-    left: usize,
-}
-
-impl Search {
-    // Finds a term, if it was not found before.
-    fn find(&mut self, open: &[usize], number: usize) {
-        match self.marks.get_mut(number) {
-            Some(mark) if *mark != self.search && level_at(open, number) > 0 => {
-                *mark = self.search;
-                self.left = self.left.saturating_add(1);
-            }
-            _ => {}
-        }
-    }
-
-    // Whether a term is to be gone through. Then it is done with.
-    fn take(&mut self, number: usize) -> bool {
-        let found = self.marks.get(number).copied() == Some(self.search);
-        if found {
-            self.left = self.left.saturating_sub(1);
-        }
-        found
-    }
 }
 
 /// So many variables for types and for constants.
@@ -169,12 +123,10 @@ impl Variables {
 
     // Whether that variable was made while terms were related.
     fn is_fresh(&self, number: usize) -> bool {
-        for range in &self.fresh {
-            if range.first <= number && number < range.behind {
-                return true;
-            }
-        }
-        false
+        let ranges = &self.fresh;
+        ranges
+            .iter()
+            .any(|range| range.first <= number && number < range.behind)
     }
 
     // The context is a new one.
@@ -205,20 +157,12 @@ struct Found {
     named: Counts,
 }
 
-// Nothing.
-const NOTHING: Found = Found {
-    open: 0,
-    fresh: false,
-    named: NONE,
-};
-
 /// How deep the terms of the context may be that was left.
 #[derive(Drop)]
 pub struct Depths {
     alloc: Global,
     // Of each term how many levels lead to a variable.
     open: Vec<usize>,
-    search: Search,
     // How many terms a chain of bindings may lead through.
     chained: usize,
     // How many instantiations the context may make.
@@ -239,18 +183,9 @@ impl Depths {
         } else {
             Vec::new(alloc)
         };
-        let mut marks = Vec::with_capacity(alloc, open.len())?;
-        for _ in &open {
-            marks.push(0)?;
-        }
         Ok(Depths {
             alloc,
             open,
-            search: Search {
-                marks,
-                search: 0,
-                left: 0,
-            },
             chained: 0,
             budget: 0,
             types: Variables::new(alloc),
@@ -267,37 +202,39 @@ impl Depths {
         }
     }
 
+    // Those of some terms that have variables, beside others.
+    fn put_open(&self, numbers: &[usize], found: &mut BTreeSet<usize>) -> Result<(), AllocError> {
+        for number in numbers {
+            if level_at(&self.open, *number) > 0 {
+                let _ = found.insert(*number)?;
+            }
+        }
+        Ok(())
+    }
+
     // Goes through the terms with variables that are found from some on. A part has a smaller number than what it is a
     // part of.
-    fn find(&mut self, program: &Program, roots: &[usize]) -> Result<Found, AllocError> {
+    fn find(&self, program: &Program, roots: &[usize]) -> Result<Found, AllocError> {
         let mut parts = Vec::new(self.alloc);
-        let mut found = NOTHING;
-        let mut top = 0;
-        self.search.search = self.search.search.saturating_add(1);
-        self.search.left = 0;
-        for root in roots {
-            self.search.find(&self.open, *root);
-            top = (*root).max(top);
-        }
-        for below in 0..program.terms.len() {
-            if self.search.left == 0 || below > top {
+        let mut found = Found {
+            open: 0,
+            fresh: false,
+            named: NONE,
+        };
+        let mut left = BTreeSet::new(self.alloc);
+        self.put_open(roots, &mut left)?;
+        for _ in &program.terms {
+            let Some(term) = left.pop_last().and_then(|number| program.terms.get(number)) else {
                 return Ok(found);
+            };
+            found.fresh = found.fresh || self.is_fresh(term);
+            found.named = found.named.with_term(term);
+            parts.clear();
+            push_parts(program, term, &mut parts)?;
+            if !parts.is_empty() {
+                found.open = found.open.saturating_add(1);
             }
-            let number = top - below;
-            if self.search.take(number) {
-                parts.clear();
-                if let Some(term) = program.terms.get(number) {
-                    found.fresh = found.fresh || self.is_fresh(term);
-                    found.named = found.named.with_term(term);
-                    push_parts(program, term, &mut parts)?;
-                }
-                if !parts.is_empty() {
-                    found.open = found.open.saturating_add(1);
-                }
-                for part in &parts {
-                    self.search.find(&self.open, *part);
-                }
-            }
+            self.put_open(&parts, &mut left)?;
         }
         Ok(found)
     }
@@ -328,17 +265,9 @@ impl Depths {
         let mut roots = Vec::new(self.alloc);
         push_related(program, &question.kind, &mut roots)?;
         let found = self.find(program, &roots)?;
-        let before = if found.fresh {
-            self.chained.saturating_mul(2)
-        } else {
-            self.chained
-        };
-        let chained = before.saturating_add(found.open).saturating_add(opened_levels(
-            self.alloc,
-            program,
-            &question.kind,
-            self.budget,
-        )?);
+        let before = self.chained.saturating_mul(if found.fresh { 2 } else { 1 });
+        let opened = opened_levels(self.alloc, program, &question.kind, self.budget)?;
+        let chained = before.saturating_add(found.open).saturating_add(opened);
         if chained > MOST {
             return Ok(false);
         }

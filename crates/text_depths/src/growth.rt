@@ -1,41 +1,9 @@
 //! By how many levels what traits state is deeper, and how far an elaboration may go by it.
 
 use crate::depth::MOST;
-use crate::parts::{NO_PARTS, Numbers, Sought, clauses_in, level_at, levels_to, push_numbers};
+use crate::parts::{Sought, clauses_in, deepest_said, level_at, levels_to, one};
 use std::alloc::{AllocError, Global};
-use text_reading::naming::{Parts, Program, Question, QuestionKind, Says, Stated};
-
-// The numbers of the terms of a predicate, but for regions.
-fn terms_of(says: &Says) -> Numbers {
-    match says {
-        Says::Claims(_, _, args) => (None, None, *args),
-        Says::ComesTo(_, _, args, term) => (Some(*term), None, *args),
-        Says::TypeOutlives(term, _) | Says::WellFormed(term) | Says::ConstEvaluatable(term) => {
-            (Some(*term), None, NO_PARTS)
-        }
-        Says::ConstArgHasType(constant, ty) => (Some(*constant), Some(*ty), NO_PARTS),
-        Says::RegionOutlives(..) | Says::UnstableFeature(_) => (None, None, NO_PARTS),
-    }
-}
-
-// By how many levels the terms of what is stated are deeper at most than those that it is stated of, by how deep
-// parameters stand in terms.
-fn growth_of(
-    alloc: Global,
-    program: &Program,
-    levels: &[usize],
-    stated: &Stated,
-) -> Result<usize, AllocError> {
-    let mut terms = Vec::new(alloc);
-    for clause in clauses_in(program, stated.clauses) {
-        push_numbers(program, terms_of(&clause.says), &mut terms)?;
-    }
-    let mut growth = 0;
-    for number in &terms {
-        growth = level_at(levels, *number).saturating_sub(1).max(growth);
-    }
-    Ok(growth)
-}
+use text_reading::naming::{Parts, Program, Question, QuestionKind, Says};
 
 // Raises the number at a place of a list. Answers whether it was lower.
 fn raise(growths: &mut Vec<usize>, number: usize, growth: usize) -> bool {
@@ -64,9 +32,7 @@ fn spread(program: &Program, growths: &mut Vec<usize>) -> bool {
     let mut any = false;
     for stated in &program.stated {
         let growth = growth_from(program, growths, stated.clauses);
-        if raise(growths, stated.of, growth) {
-            any = true;
-        }
+        any |= raise(growths, stated.of, growth);
     }
     any
 }
@@ -80,10 +46,7 @@ fn elaboration_of(kind: &QuestionKind) -> Option<(Parts, Option<usize>, usize)> 
             pulls,
             ..
         } => Some((*clauses, *limit, pulls.unwrap_or(usize::MAX))),
-        QuestionKind::Supertraits { clause, limit } => {
-            let (first, behind) = (*clause, clause.saturating_add(1));
-            Some((Parts { first, behind }, *limit, usize::MAX))
-        }
+        QuestionKind::Supertraits { clause, limit } => { Some((one(*clause), *limit, usize::MAX)) }
         _ => None,
     }
 }
@@ -114,13 +77,12 @@ impl Growths {
         if program.stated.is_empty() {
             return Ok(Growths { growths, most });
         }
-        for _ in &program.items {
-            growths.push(0)?;
-        }
+        growths = vec![in alloc; 0; program.items.len()]?;
         let levels = levels_to(alloc, program, Sought::Parameters)?;
         for stated in &program.stated {
-            let growth = growth_of(alloc, program, &levels, stated)?;
-            let _ = raise(&mut growths, stated.of, growth);
+            // By so many levels what is stated is deeper at most than what it is stated of.
+            let deepest = deepest_said(alloc, program, &levels, stated.clauses)?;
+            let _ = raise(&mut growths, stated.of, deepest.saturating_sub(1));
         }
         // A trait leads to each other one in fewer steps than there are items.
         for _ in &program.items {

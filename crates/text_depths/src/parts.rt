@@ -1,13 +1,19 @@
 //! The parts of terms, regions left out, and how many levels lead to what stands in terms.
 
 use std::alloc::{AllocError, Global};
-use text_reading::naming::{Clause, Parts, Program, Term};
+use text_reading::naming::{Clause, Parts, Program, Says, Term};
+
+// The range of one place alone.
+pub(super) fn one(first: usize) -> Parts {
+    let behind = first.saturating_add(1);
+    Parts { first, behind }
+}
 
 // Numbers of terms: up to two, and those of a range.
-pub(super) type Numbers = (Option<usize>, Option<usize>, Parts);
+type Numbers = (Option<usize>, Option<usize>, Parts);
 
 // Of no term.
-pub(super) const NO_PARTS: Parts = Parts {
+const NO_PARTS: Parts = Parts {
     first: 0,
     behind: 0,
 };
@@ -46,7 +52,7 @@ pub(super) fn push_range(
 }
 
 // Adds numbers of terms.
-pub(super) fn push_numbers(
+fn push_numbers(
     program: &Program,
     those: Numbers,
     found: &mut Vec<usize>,
@@ -73,6 +79,31 @@ pub(super) fn push_parts(
 pub(super) fn clauses_in<'a>(program: &'a Program, range: Parts) -> &'a [Clause] {
     let found = program.clauses.get(range.first..range.behind);
     found.unwrap_or(&[])
+}
+
+// The numbers of the terms of a predicate, but for regions.
+fn terms_of(says: &Says) -> Numbers {
+    match says {
+        Says::Claims(_, _, args) => (None, None, *args),
+        Says::ComesTo(_, _, args, term) => (Some(*term), None, *args),
+        Says::TypeOutlives(term, _) | Says::WellFormed(term) | Says::ConstEvaluatable(term) => {
+            (Some(*term), None, NO_PARTS)
+        }
+        Says::ConstArgHasType(constant, ty) => (Some(*constant), Some(*ty), NO_PARTS),
+        Says::RegionOutlives(..) | Says::UnstableFeature(_) => (None, None, NO_PARTS),
+    }
+}
+
+// Adds the numbers of the terms of the predicates of a range.
+pub(super) fn push_said(
+    program: &Program,
+    range: Parts,
+    found: &mut Vec<usize>,
+) -> Result<(), AllocError> {
+    for clause in clauses_in(program, range) {
+        push_numbers(program, terms_of(&clause.says), found)?;
+    }
+    Ok(())
 }
 
 // What is looked for in terms.
@@ -130,4 +161,22 @@ pub(super) fn levels_to(
         levels.push(level)?;
     }
     Ok(levels)
+}
+
+// How many levels the deepest term has of the predicates of a range.
+pub(super) fn deepest_said(
+    alloc: Global,
+    program: &Program,
+    levels: &[usize],
+    range: Parts,
+) -> Result<usize, AllocError> {
+    let mut terms = Vec::new(alloc);
+    push_said(program, range, &mut terms)?;
+    Ok(
+        terms
+            .iter()
+            .map(|number| level_at(levels, *number))
+            .max()
+            .unwrap_or(0),
+    )
 }

@@ -10,8 +10,8 @@ use relation_terms::terms::{
     BoundConstness, GenericArg, GenericArgKind, Interner, PredicatePolarity, Ty, TyKind,
 };
 use std::fmt::{self, Write};
-use text_terms::printing::under::{Around, write_arg, write_named, write_ty};
-use text_terms::printing::{TextsOf, item_text};
+use text_terms::printing::item_text;
+use text_terms::printing::under::Under;
 
 // What stands before a trait that is implemented, or is not.
 pub(super) fn polarity_text(polarity: PredicatePolarity) -> &'static str
@@ -36,61 +36,55 @@ pub(super) fn constness_text(constness: BoundConstness) -> &'static str
 // Writes the type that a predicate speaks of. The bounds of a trait object would be taken for more, and behind a binder
 // a function pointer or a type under a binder would be taken for what that binder is of: these stand in brackets.
 pub(super) fn write_subject<I: Interner, W: Write>(
-    cx: &I,
-    texts: &TextsOf<I>,
-    around: &Around,
+    at: &Under<I>,
     ty: &Ty<I>,
     is_behind: bool,
     out: &mut W,
 ) -> fmt::Result
-    requires { IsTrue (known ((I.meaning cx.now).ty ty.now)) }
+    requires { IsTrue (known ((I.meaning at.now.cx.now).ty ty.now)) }
 {
-    let (open, close) = match cx.ty_kind(ty) {
+    let (open, close) = match at.cx.ty_kind(ty) {
         TyKind::Dynamic(..) => ("(", ")"),
         TyKind::FnPtr(..) | TyKind::UnsafeBinder(_) if is_behind => ("(", ")"),
         _ => ("", ""),
     };
     out.write_str(open)?;
-    write_ty(cx, texts, around, ty, out)?;
+    at.write_ty(ty, out)?;
     out.write_str(close)
 }
 
 // Writes the first argument of a trait, which a predicate speaks of.
 fn write_first<I: Interner, W: Write>(
-    cx: &I,
-    texts: &TextsOf<I>,
-    around: &Around,
+    at: &Under<I>,
     first: &GenericArg<I>,
     is_behind: bool,
     out: &mut W,
 ) -> fmt::Result
-    requires { IsTrue (known (arg_tree (I.meaning cx.now) first.now)) }
+    requires { IsTrue (known (arg_tree (I.meaning at.now.cx.now) first.now)) }
 {
     match first {
-        GenericArgKind::Ty(ty) => write_subject(cx, texts, around, ty, is_behind, out),
-        _ => write_arg(cx, texts, around, first, out),
+        GenericArgKind::Ty(ty) => write_subject(at, ty, is_behind, out),
+        _ => at.write_arg(first, out),
     }
 }
 
 // Writes that a trait is implemented, with a mark before it: `T: !Tr<U>`.
 #[tactic(auto, using(crate::proofs::ClauseLemmas::first_known))]
 pub(super) fn write_implemented<I: Interner, W: Write>(
-    cx: &I,
-    texts: &TextsOf<I>,
-    around: &Around,
+    at: &Under<I>,
     of: &TraitRef<I::Key, I::Id>,
     mark: &str,
     is_behind: bool,
     out: &mut W,
 ) -> fmt::Result
-    requires { IsTrue (known (trait_ref_tree (I.meaning cx.now) of.now)) }
+    requires { IsTrue (known (trait_ref_tree (I.meaning at.now.cx.now) of.now)) }
 {
-    let args = cx.args(&of.args);
+    let args = at.cx.args(&of.args);
     if let Some((first, _)) = args.split_first() {
-        write_first(cx, texts, around, first, is_behind, out)?;
+        write_first(at, first, is_behind, out)?;
     }
     out.write_str(": ")?;
     out.write_str(mark)?;
-    let name = item_text(&texts.items, &of.def_id.0);
-    write_named(cx, texts, around, name, &of.args, 1, args.len(), out)
+    let name = item_text(&at.texts.items, &of.def_id.0);
+    at.write_named(name, &of.args, 1, args.len(), out)
 }

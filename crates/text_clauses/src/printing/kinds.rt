@@ -8,121 +8,105 @@ use crate::printing::claims::{constness_text, polarity_text, write_implemented, 
 use relation_terms::predicate::{ClauseKind, ProjectionPredicate};
 use relation_terms::terms::{Const, GenericArgKind, Interner, Term, TermKind, Ty};
 use std::fmt::{self, Write};
-use text_terms::printing::under::{
-    Around, write_any_arg, write_const, write_item, write_region, write_term, write_ty,
-};
-use text_terms::printing::{TextsOf, name_text};
+use text_terms::printing::name_text;
+use text_terms::printing::under::Under;
 
 // Writes what an alias comes to: `<T as Tr>::A == u8`.
 fn write_projection<I: Interner, W: Write>(
-    cx: &I,
-    texts: &TextsOf<I>,
-    around: &Around,
+    at: &Under<I>,
     of: &ProjectionPredicate<I::Key, I::Id>,
     out: &mut W,
 ) -> fmt::Result
-    requires alias { IsTrue (known (alias_term_tree (I.meaning cx.now) (of.now).projection_term)) }
-    requires term { IsTrue (known (term_tree (I.meaning cx.now) (of.now).term)) }
+    requires alias { IsTrue (known (alias_term_tree (I.meaning at.now.cx.now) (of.now).projection_term)) }
+    requires term { IsTrue (known (term_tree (I.meaning at.now.cx.now) (of.now).term)) }
 {
     let id = of.projection_term.def_id();
-    write_item(cx, texts, around, &id.0, &of.projection_term.args, out)?;
+    at.write_item(&id.0, &of.projection_term.args, out)?;
     out.write_str(" == ")?;
-    write_term(cx, texts, around, &of.term, out)
+    at.write_term(&of.term, out)
 }
 
 // Writes that a term is well-formed: `WellFormed(T)`. It may be of either sort.
 fn write_well_formed<I: Interner, W: Write>(
-    cx: &I,
-    texts: &TextsOf<I>,
-    around: &Around,
+    at: &Under<I>,
     term: &Term<I>,
     out: &mut W,
 ) -> fmt::Result
-    requires { IsTrue (known (term_tree (I.meaning cx.now) term.now)) }
+    requires { IsTrue (known (term_tree (I.meaning at.now.cx.now) term.now)) }
 {
     let arg = match term {
         TermKind::Ty(ty) => GenericArgKind::Ty(*ty),
         TermKind::Const(constant) => GenericArgKind::Const(*constant),
     };
     out.write_str("WellFormed(")?;
-    write_any_arg(cx, texts, around, &arg, out)?;
+    at.write_any_arg(&arg, out)?;
     out.write_str(")")
 }
 
 // Writes that a constant can be evaluated: `ConstEvaluatable(N)`.
 fn write_evaluatable<I: Interner, W: Write>(
-    cx: &I,
-    texts: &TextsOf<I>,
-    around: &Around,
+    at: &Under<I>,
     constant: &Const<I>,
     out: &mut W,
 ) -> fmt::Result
-    requires { IsTrue (known ((I.meaning cx.now).const_ constant.now)) }
+    requires { IsTrue (known ((I.meaning at.now.cx.now).const_ constant.now)) }
 {
     out.write_str("ConstEvaluatable(")?;
-    write_const(cx, texts, around, constant, out)?;
+    at.write_const(constant, out)?;
     out.write_str(")")
 }
 
 // Writes which type a constant is of: `ConstArgHasType(1, usize)`.
 fn write_typed<I: Interner, W: Write>(
-    cx: &I,
-    texts: &TextsOf<I>,
-    around: &Around,
+    at: &Under<I>,
     constant: &Const<I>,
     ty: &Ty<I>,
     out: &mut W,
 ) -> fmt::Result
-    requires constant { IsTrue (known ((I.meaning cx.now).const_ constant.now)) }
-    requires ty { IsTrue (known ((I.meaning cx.now).ty ty.now)) }
+    requires constant { IsTrue (known ((I.meaning at.now.cx.now).const_ constant.now)) }
+    requires ty { IsTrue (known ((I.meaning at.now.cx.now).ty ty.now)) }
 {
     out.write_str("ConstArgHasType(")?;
-    write_const(cx, texts, around, constant, out)?;
+    at.write_const(constant, out)?;
     out.write_str(", ")?;
-    write_ty(cx, texts, around, ty, out)?;
+    at.write_ty(ty, out)?;
     out.write_str(")")
 }
 
 // Writes what a clause says, behind a binder or not.
 pub(super) fn write_kind<I: Interner, W: Write>(
-    cx: &I,
-    texts: &TextsOf<I>,
-    around: &Around,
+    at: &Under<I>,
     kind: &ClauseKind<I::Key, I::Id, I::Name>,
     is_behind: bool,
     out: &mut W,
 ) -> fmt::Result
-    requires { IsTrue (known (clause_kind_tree (I.meaning cx.now) kind.now)) }
+    requires { IsTrue (known (clause_kind_tree (I.meaning at.now.cx.now) kind.now)) }
 {
     match kind {
         ClauseKind::Trait(of) => {
             let mark = polarity_text(of.polarity);
-            write_implemented(cx, texts, around, &of.trait_ref, mark, is_behind, out)
+            write_implemented(at, &of.trait_ref, mark, is_behind, out)
         }
         ClauseKind::HostEffect(of) => {
             let mark = constness_text(of.constness);
-            write_implemented(cx, texts, around, &of.trait_ref, mark, is_behind, out)
+            write_implemented(at, &of.trait_ref, mark, is_behind, out)
         }
         ClauseKind::RegionOutlives(of) => {
-            write_region(cx, texts, around, &of.0, out)?;
+            at.write_region(&of.0, out)?;
             out.write_str(": ")?;
-            write_region(cx, texts, around, &of.1, out)
+            at.write_region(&of.1, out)
         }
         ClauseKind::TypeOutlives(of) => {
-            write_subject(cx, texts, around, &of.0, is_behind, out)?;
+            write_subject(at, &of.0, is_behind, out)?;
             out.write_str(": ")?;
-            write_region(cx, texts, around, &of.1, out)
+            at.write_region(&of.1, out)
         }
-        ClauseKind::Projection(of) => write_projection(cx, texts, around, of, out),
-        ClauseKind::ConstArgHasType(constant, ty) => {
-            write_typed(cx, texts, around, constant, ty, out)
-        }
-        ClauseKind::WellFormed(term) => write_well_formed(cx, texts, around, term, out),
-        ClauseKind::ConstEvaluatable(constant) => {
-            write_evaluatable(cx, texts, around, constant, out)
-        }
+        ClauseKind::Projection(of) => write_projection(at, of, out),
+        ClauseKind::ConstArgHasType(constant, ty) => { write_typed(at, constant, ty, out) }
+        ClauseKind::WellFormed(term) => write_well_formed(at, term, out),
+        ClauseKind::ConstEvaluatable(constant) => { write_evaluatable(at, constant, out) }
         ClauseKind::UnstableFeature(name) => {
-            let text = name_text(&texts.names, name);
+            let text = name_text(&at.texts.names, name);
             write!(out, "UnstableFeature({text})")
         }
     }

@@ -114,6 +114,15 @@ pub enum Makes {
 /// A form: what it makes, and how it is written.
 pub type Shape = (Makes, &'static [Piece]);
 
+// A row of the table: what a form makes, and the pieces that it is written as.
+macro_rules! row {
+    ($makes:expr => $($piece:expr),*) => {
+        ($makes, &[$($piece),*])
+    };
+}
+
+pub(super) use row;
+
 // The node over what is always one part, and so is never made.
 pub(super) const ITSELF: Makes = Makes::Lone(Form::Terms);
 

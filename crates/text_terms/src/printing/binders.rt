@@ -1,7 +1,9 @@
 //! The names of what binders bind.
 
+use crate::printing::leaves::write_between;
 use crate::printing::letters::{Letters, write_letter};
-use relation_terms::terms::{BoundVar, BoundVariableKind, DebruijnIndex};
+use crate::printing::under::Under;
+use relation_terms::terms::{BoundVar, BoundVariable, BoundVariableKind, DebruijnIndex, Interner};
 use std::fmt::{self, Write};
 
 /// The binders around a term that is printed. Each of their variables has a number: how many stand bound outside its
@@ -27,18 +29,18 @@ enum Bound {
     Outside(u64),
 }
 
-/// What stands around the body of a binder of so many variables.
-pub fn enter<'a>(around: &'a Around<'a>, count: usize) -> Around<'a> {
-    let first = around.bound_count();
-    Around::Binder {
-        first,
-        behind: first.saturating_add(count),
-        letters: around.letters(),
-        outer: around,
-    }
-}
-
 impl<'a> Around<'a> {
+    // What stands around the body of a binder of so many variables.
+    pub fn enter(&'a self, count: usize) -> Around<'a> {
+        let first = self.bound_count();
+        Around::Binder {
+            first,
+            behind: first.saturating_add(count),
+            letters: self.letters(),
+            outer: self,
+        }
+    }
+
     // How many variables are bound.
     fn bound_count(&self) -> usize {
         match self {
@@ -65,33 +67,6 @@ fn binder_of(around: &Around, depth: u64, place: usize) -> Bound {
     }
 }
 
-// Writes the name of a bound type or constant behind its mark.
-pub(super) fn write_bound<W: Write>(
-    mark: &str,
-    around: &Around,
-    depth: DebruijnIndex,
-    var: BoundVar,
-    out: &mut W,
-) -> fmt::Result {
-    match binder_of(around, depth.0, var.0) {
-        Bound::Inside(number) => write!(out, "{mark}{number}"),
-        Bound::Outside(depth) => write_escaping(mark, around, depth, var, out),
-    }
-}
-
-// Writes the name of a bound region.
-pub(super) fn write_bound_region<W: Write>(
-    around: &Around,
-    depth: DebruijnIndex,
-    var: BoundVar,
-    out: &mut W,
-) -> fmt::Result {
-    match binder_of(around, depth.0, var.0) {
-        Bound::Inside(number) => write_letter(around.letters(), number, out),
-        Bound::Outside(depth) => write_escaping("'^", around, depth, var, out),
-    }
-}
-
 // Writes what a binder outside the term binds, behind its mark: how far out that binder stands, and the place in its
 // list. Where no binder of the term stands around, the nearest needs no distance.
 fn write_escaping<W: Write>(
@@ -108,40 +83,63 @@ fn write_escaping<W: Write>(
     }
 }
 
-/// Writes a binder, unless it binds nothing: `for<'a, ^1> `.
-///
-/// # Errors
-/// `fmt::Error` where `out` refused to take some of the text. What it took before stands.
-pub fn write_for<N, W: Write>(
-    vars: &[BoundVariableKind<N>],
-    around: &Around,
-    out: &mut W,
-) -> fmt::Result {
-    if vars.is_empty() {
-        return Ok(());
+impl<'a, I: Interner> Under<'a, I> {
+    // Writes the name of a bound type or constant behind its mark.
+    pub(super) fn write_bound<W: Write>(
+        &self,
+        mark: &str,
+        depth: DebruijnIndex,
+        var: BoundVar,
+        out: &mut W,
+    ) -> fmt::Result {
+        match binder_of(&self.around, depth.0, var.0) {
+            Bound::Inside(number) => write!(out, "{mark}{number}"),
+            Bound::Outside(depth) => write_escaping(mark, &self.around, depth, var, out),
+        }
     }
-    out.write_str("for")?;
-    write_variables(vars, around, out)
-}
 
-// Writes the variables of a binder: `<'a, ^1> `.
-pub(super) fn write_variables<N, W: Write>(
-    vars: &[BoundVariableKind<N>],
-    around: &Around,
-    out: &mut W,
-) -> fmt::Result {
-    let first = around.bound_count();
-    out.write_str("<")?;
-    for (place, var) in vars.iter().enumerate() {
-        if place > 0 {
-            out.write_str(", ")?;
-        }
-        let number = first.saturating_add(place);
-        match var {
-            BoundVariableKind::Region(_) => write_letter(around.letters(), number, out)?,
-            BoundVariableKind::Ty(_) => write!(out, "^{number}")?,
-            BoundVariableKind::Const(_) => write!(out, "^c{number}")?,
+    // Writes the name of a bound region.
+    pub(super) fn write_bound_region<W: Write>(
+        &self,
+        depth: DebruijnIndex,
+        var: BoundVar,
+        out: &mut W,
+    ) -> fmt::Result {
+        match binder_of(&self.around, depth.0, var.0) {
+            Bound::Inside(number) => write_letter(self.around.letters(), number, out),
+            Bound::Outside(depth) => write_escaping("'^", &self.around, depth, var, out),
         }
     }
-    out.write_str("> ")
+
+    /// Writes a binder, unless it binds nothing: `for<'a, ^1> `.
+    ///
+    /// # Errors
+    /// `fmt::Error` where `out` refused to take some of the text. What it took before stands.
+    pub fn write_for<W: Write>(&self, vars: &[BoundVariable<I>], out: &mut W) -> fmt::Result {
+        if vars.is_empty() {
+            return Ok(());
+        }
+        out.write_str("for")?;
+        self.write_variables(vars, out)
+    }
+
+    // Writes the variables of a binder: `<'a, ^1> `.
+    pub(super) fn write_variables<W: Write>(
+        &self,
+        vars: &[BoundVariable<I>],
+        out: &mut W,
+    ) -> fmt::Result {
+        let first = self.around.bound_count();
+        out.write_str("<")?;
+        for (place, var) in vars.iter().enumerate() {
+            write_between(place, ", ", out)?;
+            let number = first.saturating_add(place);
+            match var {
+                BoundVariableKind::Region(_) => write_letter(self.around.letters(), number, out)?,
+                BoundVariableKind::Ty(_) => write!(out, "^{number}")?,
+                BoundVariableKind::Const(_) => write!(out, "^c{number}")?,
+            }
+        }
+        out.write_str("> ")
+    }
 }

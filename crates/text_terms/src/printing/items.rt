@@ -4,10 +4,9 @@ ghost use Rattle.relation_terms.specs.Trees.{known};
 ghost use Rattle.relation_terms.specs.Meaning.{alias_id};
 ghost use Rattle.text_terms.specs.Printed.{IsOver};
 
-use crate::printing::binders::Around;
 use crate::printing::leaves::write_between;
-use crate::printing::names::{TextsOf, TraitText, item_text, trait_text};
-use crate::printing::terms::write_arg;
+use crate::printing::names::{TraitText, item_text, trait_text};
+use crate::printing::under::Under;
 use relation_terms::terms::{AliasTyKind, ArgsKey, GenericArgs, Interner, TyKind};
 use std::fmt::{self, Write};
 
@@ -39,101 +38,92 @@ pub(super) fn over_args<X: Copy, D: Copy, N>(kind: &TyKind<X, D, N>) -> Option<(
     }
 }
 
-/// Writes an item over its arguments under binders: an associated item of a trait by the trait, any other by its name.
-/// The interner has to know the arguments.
-///
-/// # Errors
-/// `fmt::Error` where `out` refused to take some of the text. What it took before stands.
-#[cycle(write_ty)]
 #[tactic(auto, using(crate::proofs::Parts::size_part, crate::proofs::Parts::known_part))]
-pub fn write_item<I: Interner, W: Write>(
-    cx: &I,
-    texts: &TextsOf<I>,
-    around: &Around,
-    id: &I::Id,
-    args: &GenericArgs<I>,
-    out: &mut W,
-) -> fmt::Result
-    requires { IsTrue (known ((I.meaning cx.now).args args.now)) }
-{
-    let name = item_text(&texts.items, id);
-    let count = cx.args(args).len();
-    match trait_text(&texts.items, id) {
-        Some(of) if 0 < of.count && of.count <= count => {
-            write_associated(cx, texts, around, of, args, out)?;
-            write_named(cx, texts, around, name, args, of.count, count, out)
-        }
-        _ => write_named(cx, texts, around, name, args, 0, count, out),
-    }
-}
-
-// Writes what stands before the name of an associated item: the type that its trait is of, and the trait.
-#[cycle(write_ty)]
-#[tactic(auto, using(crate::proofs::Parts::size_part, crate::proofs::Parts::known_part))]
-fn write_associated<I: Interner, W: Write>(
-    cx: &I,
-    texts: &TextsOf<I>,
-    around: &Around,
-    of: TraitText,
-    args: &GenericArgs<I>,
-    out: &mut W,
-) -> fmt::Result
-    requires { IsTrue (known ((I.meaning cx.now).args args.now)) }
-{
-    out.write_str("<")?;
-    write_args(cx, texts, around, args, 0, 1, out)?;
-    out.write_str(" as ")?;
-    write_named(cx, texts, around, of.text, args, 1, of.count, out)?;
-    out.write_str(">::")
-}
-
-/// Writes a name and, where there are any, the arguments from a place on, up to another, under binders. The interner
-/// has to know the arguments.
-///
-/// # Errors
-/// `fmt::Error` where `out` refused to take some of the text. What it took before stands.
-#[cycle(write_ty)]
-#[tactic(auto, using(crate::proofs::Parts::size_part, crate::proofs::Parts::known_part))]
-pub fn write_named<I: Interner, W: Write>(
-    cx: &I,
-    texts: &TextsOf<I>,
-    around: &Around,
-    name: &str,
-    args: &GenericArgs<I>,
-    first: usize,
-    behind: usize,
-    out: &mut W,
-) -> fmt::Result
-    requires { IsTrue (known ((I.meaning cx.now).args args.now)) }
-{
-    out.write_str(name)?;
-    if behind <= first {
-        return Ok(());
-    }
-    out.write_str("<")?;
-    write_args(cx, texts, around, args, first, behind, out)?;
-    out.write_str(">")
-}
-
-// Writes the arguments from a place on, up to another, with commas between.
-#[cycle(write_ty)]
-#[tactic(auto, using(crate::proofs::Parts::size_part, crate::proofs::Parts::known_part))]
-pub(super) fn write_args<I: Interner, W: Write>(
-    cx: &I,
-    texts: &TextsOf<I>,
-    around: &Around,
-    args: &GenericArgs<I>,
-    first: usize,
-    behind: usize,
-    out: &mut W,
-) -> fmt::Result
-    requires { IsTrue (known ((I.meaning cx.now).args args.now)) }
-{
-    for (place, arg) in cx.args(args).iter().enumerate() {
-        if first <= place && place < behind {
-            write_between(place - first, ", ", out)?;
-            write_arg(cx, texts, around, arg, out)?;
+impl<'a, I: Interner> Under<'a, I> {
+    /// Writes an item over its arguments under binders: an associated item of a trait by the trait, any other by its name.
+    /// The interner has to know the arguments.
+    ///
+    /// # Errors
+    /// `fmt::Error` where `out` refused to take some of the text. What it took before stands.
+    #[cycle(write_ty)]
+    pub fn write_item<W: Write>(
+        &self,
+        id: &I::Id,
+        args: &GenericArgs<I>,
+        out: &mut W,
+    ) -> fmt::Result
+        requires { IsTrue (known ((I.meaning self.now.cx.now).args args.now)) }
+    {
+        let name = item_text(&self.texts.items, id);
+        let count = self.cx.args(args).len();
+        match trait_text(&self.texts.items, id) {
+            Some(of) if 0 < of.count && of.count <= count => {
+                self.write_associated(of, args, out)?;
+                self.write_named(name, args, of.count, count, out)
+            }
+            _ => self.write_named(name, args, 0, count, out),
         }
     }
-    Ok(())
+
+    // Writes what stands before the name of an associated item: the type that its trait is of, and the trait.
+    #[cycle(write_ty)]
+    fn write_associated<W: Write>(
+        &self,
+        of: TraitText,
+        args: &GenericArgs<I>,
+        out: &mut W,
+    ) -> fmt::Result
+        requires { IsTrue (known ((I.meaning self.now.cx.now).args args.now)) }
+    {
+        out.write_str("<")?;
+        self.write_args(args, 0, 1, out)?;
+        out.write_str(" as ")?;
+        self.write_named(of.text, args, 1, of.count, out)?;
+        out.write_str(">::")
+    }
+
+    /// Writes a name and, where there are any, the arguments from a place on, up to another, under binders. The interner
+    /// has to know the arguments.
+    ///
+    /// # Errors
+    /// `fmt::Error` where `out` refused to take some of the text. What it took before stands.
+    #[cycle(write_ty)]
+    pub fn write_named<W: Write>(
+        &self,
+        name: &str,
+        args: &GenericArgs<I>,
+        first: usize,
+        behind: usize,
+        out: &mut W,
+    ) -> fmt::Result
+        requires { IsTrue (known ((I.meaning self.now.cx.now).args args.now)) }
+    {
+        out.write_str(name)?;
+        if behind <= first {
+            return Ok(());
+        }
+        out.write_str("<")?;
+        self.write_args(args, first, behind, out)?;
+        out.write_str(">")
+    }
+
+    // Writes the arguments from a place on, up to another, with commas between.
+    #[cycle(write_ty)]
+    pub(super) fn write_args<W: Write>(
+        &self,
+        args: &GenericArgs<I>,
+        first: usize,
+        behind: usize,
+        out: &mut W,
+    ) -> fmt::Result
+        requires { IsTrue (known ((I.meaning self.now.cx.now).args args.now)) }
+    {
+        for (place, arg) in self.cx.args(args).iter().enumerate() {
+            if first <= place && place < behind {
+                write_between(place - first, ", ", out)?;
+                self.write_arg(arg, out)?;
+            }
+        }
+        Ok(())
+    }
 }

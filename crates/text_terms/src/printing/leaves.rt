@@ -2,46 +2,15 @@
 ghost use Rattle.std.specs.Prelude.{IsTrue};
 ghost use Rattle.relation_terms.specs.Trees.{known};
 
-use crate::printing::binders::{Around, write_bound, write_bound_region};
 use crate::printing::names::{
-    NameTexts, Texts, TextsOf, float_name, int_name, item_text, name_text, region_name_text,
-    uint_name,
+    NameTexts, Texts, float_name, int_name, item_text, name_text, region_name_text, uint_name,
 };
+use crate::printing::under::Under;
 use relation_terms::terms::{
-    BoundVar, InferConst, InferTy, Interner, Region, RegionKind, TyKind, UniverseIndex,
+    BoundVar, InferConst, InferTy, Interner, Region, RegionKind, TyForm, TyKind, UniverseIndex,
 };
 use std::fmt::{self, Write};
 use std::hash::Hash;
-
-/// Writes a region under binders. A parameter that has no text is `'_`. The interner has to know the region.
-///
-/// # Errors
-/// `fmt::Error` where `out` refused to take some of the text. What it took before stands.
-pub fn write_region<I: Interner, W: Write>(
-    cx: &I,
-    texts: &TextsOf<I>,
-    around: &Around,
-    region: &Region<I>,
-    out: &mut W,
-) -> fmt::Result
-    requires { IsTrue (known ((I.meaning cx.now).region region.now)) }
-{
-    match cx.region_kind(region) {
-        RegionKind::ReStatic => out.write_str("'static"),
-        RegionKind::ReVar(variable) => {
-            let number = variable.0;
-            write!(out, "'?{number}")
-        }
-        RegionKind::ReEarlyParam(named) => {
-            out.write_str(region_name_text(&texts.names, &named.name))
-        }
-        RegionKind::ReBound(depth, of) => write_bound_region(around, depth, of.var, out),
-        RegionKind::RePlaceholder(of) => {
-            out.write_str("'")?;
-            write_placeholder(&texts.names, of.universe, of.bound.var, &of.bound.name, out)
-        }
-    }
-}
 
 // Whether a name is one that a binder gives to what it binds: it begins with a mark.
 fn is_bound_name(text: &str) -> bool {
@@ -122,23 +91,47 @@ fn leaf_text<'a, X, D: Eq + Hash, N: Eq + Hash>(
     }
 }
 
-// Writes a type that has no parts.
-pub(super) fn write_leaf<X, D: Eq + Hash, N: Eq + Hash, W: Write>(
-    texts: &Texts<D, N>,
-    around: &Around,
-    kind: &TyKind<X, D, N>,
-    out: &mut W,
-) -> fmt::Result {
-    match kind {
-        TyKind::Placeholder(of) => write_placeholder(
-            &texts.names,
-            of.universe,
-            of.bound.var,
-            &of.bound.name,
-            out,
-        ),
-        TyKind::Bound(depth, of) => write_bound("^", around, *depth, of.var, out),
-        TyKind::Infer(variable) => write_variable(*variable, out),
-        _ => out.write_str(leaf_text(texts, kind)),
+impl<'a, I: Interner> Under<'a, I> {
+    /// Writes a region under binders. A parameter that has no text is `'_`. The interner has to know the region.
+    ///
+    /// # Errors
+    /// `fmt::Error` where `out` refused to take some of the text. What it took before stands.
+    pub fn write_region<W: Write>(&self, region: &Region<I>, out: &mut W) -> fmt::Result
+        requires { IsTrue (known ((I.meaning self.now.cx.now).region region.now)) }
+    {
+        match self.cx.region_kind(region) {
+            RegionKind::ReStatic => out.write_str("'static"),
+            RegionKind::ReVar(variable) => {
+                let number = variable.0;
+                write!(out, "'?{number}")
+            }
+            RegionKind::ReEarlyParam(named) => {
+                out.write_str(region_name_text(&self.texts.names, &named.name))
+            }
+            RegionKind::ReBound(depth, of) => self.write_bound_region(depth, of.var, out),
+            RegionKind::RePlaceholder(of) => {
+                out.write_str("'")?;
+                write_placeholder(
+                    &self.texts.names,
+                    of.universe,
+                    of.bound.var,
+                    &of.bound.name,
+                    out,
+                )
+            }
+        }
+    }
+
+    // Writes a type that has no parts.
+    pub(super) fn write_leaf<W: Write>(&self, kind: &TyForm<I>, out: &mut W) -> fmt::Result {
+        let names = &self.texts.names;
+        match kind {
+            TyKind::Placeholder(of) => {
+                write_placeholder(names, of.universe, of.bound.var, &of.bound.name, out)
+            }
+            TyKind::Bound(depth, of) => self.write_bound("^", *depth, of.var, out),
+            TyKind::Infer(variable) => write_variable(*variable, out),
+            _ => out.write_str(leaf_text(self.texts, kind)),
+        }
     }
 }

@@ -1,9 +1,37 @@
-//! How terms print under binders that stand around them.
+//! What a term prints by under binders that stand around it.
+ghost use Rattle.std.specs.Prelude.{◌≡◌};
 
-pub use crate::printing::binders::{Around, enter, write_for};
-pub use crate::printing::constants::write_const;
+use crate::printing::binders::Around;
 pub use crate::printing::free::free_letters;
-pub use crate::printing::items::{write_item, write_named};
-pub use crate::printing::leaves::{write_between, write_region};
-pub use crate::printing::letters::Letters;
-pub use crate::printing::terms::{write_any_arg, write_arg, write_operand, write_term, write_ty};
+use crate::printing::letters::Letters;
+use crate::printing::names::TextsOf;
+use relation_terms::terms::Interner;
+
+/// The interner that knows a term, the texts of names and of items, and the binders around the term.
+#[derive(Drop)]
+pub struct Under<'a, I: Interner> {
+    pub cx: &'a I,
+    pub texts: &'a TextsOf<'a, I>,
+    pub(super) around: Around<'a>,
+}
+
+impl<'a, I: Interner> Under<'a, I> {
+    /// No binder around. A bound region prints by none of these letters.
+    pub fn new(cx: &'a I, texts: &'a TextsOf<'a, I>, letters: &'a Letters) -> Under<'a, I>
+        ensures cx { result.cx.now ≡ cx.now }
+    {
+        let around = Around::Nothing(letters);
+        Under { cx, texts, around }
+    }
+
+    /// The same in the body of a binder of so many variables.
+    pub fn enter(&self, count: usize) -> Under<'_, I>
+        ensures cx { result.cx.now ≡ self.now.cx.now }
+    {
+        Under {
+            cx: self.cx,
+            texts: self.texts,
+            around: self.around.enter(count),
+        }
+    }
+}

@@ -6,11 +6,11 @@ ghost use Rattle.relation_terms.specs.Trees.{known};
 ghost use Rattle.relation_terms.specs.Meaning.{arg_tree};
 ghost use Rattle.text_terms.specs.Texts.{text_at};
 
-use crate::printing::binders::Around;
 use crate::printing::free::free_letters;
 use crate::printing::letters::Letters;
 use crate::printing::names::{TextsOf, item_text, name_text};
-use crate::printing::{constants, items, leaves, objects, terms};
+use crate::printing::under::Under;
+use crate::printing::{items, leaves};
 use relation_terms::terms::{
     AliasTy, Const, ExistentialPredicates, GenericArg, InferTy, Interner, ItemOf, ParamTy,
     PlaceholderType, Region, Ty,
@@ -31,7 +31,7 @@ pub fn write_ty<I: Interner, W: Write>(
     requires { IsTrue (known ((I.meaning cx.now).ty ty.now)) }
 {
     let letters = free_letters(cx, texts, ty)?;
-    terms::write_ty(cx, texts, &Around::Nothing(&letters), ty, out)
+    Under::new(cx, texts, &letters).write_ty(ty, out)
 }
 
 /// Writes a region. A parameter that has no text is `'_`.
@@ -47,7 +47,7 @@ pub fn write_region<I: Interner, W: Write>(
     requires { IsTrue (known ((I.meaning cx.now).region region.now)) }
 {
     let letters = Letters::new(cx.alloc());
-    leaves::write_region(cx, texts, &Around::Nothing(&letters), region, out)
+    Under::new(cx, texts, &letters).write_region(region, out)
 }
 
 /// Writes a constant: a value with its type behind it, unless that is `usize`. A parameter that has no text is `_`.
@@ -64,7 +64,7 @@ pub fn write_const<I: Interner, W: Write>(
     requires { IsTrue (known ((I.meaning cx.now).const_ constant.now)) }
 {
     let letters = free_letters(cx, texts, constant)?;
-    constants::write_const(cx, texts, &Around::Nothing(&letters), constant, out)
+    Under::new(cx, texts, &letters).write_const(constant, out)
 }
 
 /// Writes a generic argument: a region, a type or a constant, as each is written alone, with `const` before a constant
@@ -82,7 +82,7 @@ pub fn write_arg<I: Interner, W: Write>(
     requires { IsTrue (known (arg_tree (I.meaning cx.now) arg.now)) }
 {
     let letters = free_letters(cx, texts, arg)?;
-    terms::write_any_arg(cx, texts, &Around::Nothing(&letters), arg, out)
+    Under::new(cx, texts, &letters).write_any_arg(arg, out)
 }
 
 /// Writes the predicates of a trait object as they stand behind `dyn`, with `+` between; nothing where there are none.
@@ -99,7 +99,7 @@ pub fn write_object_predicates<I: Interner, W: Write>(
     requires { IsTrue (known ((I.meaning cx.now).existential_predicates predicates.now)) }
 {
     let letters = free_letters(cx, texts, predicates)?;
-    objects::write_object_predicates(cx, texts, &Around::Nothing(&letters), predicates, out)
+    Under::new(cx, texts, &letters).write_object_predicates(predicates, out)
 }
 
 /// Writes an item's name. One that has no text is `_`.
@@ -171,5 +171,5 @@ pub fn write_alias<I: Interner, W: Write>(
 {
     let letters = free_letters(cx, texts, &alias.args)?;
     let id = items::alias_id(&alias.kind);
-    items::write_item(cx, texts, &Around::Nothing(&letters), &id, &alias.args, out)
+    Under::new(cx, texts, &letters).write_item(&id, &alias.args, out)
 }
