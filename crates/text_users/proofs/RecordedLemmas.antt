@@ -1,5 +1,6 @@
 -- What a lawful context has recorded of regions.
-use Rattle.std.proofs.Common.{◌≡◌, List, get_or, map, All}
+use Rattle.std.proofs.Common.{◌≡◌, ℕ, ◌<◌, List, length, get_or, map, subst, ap, ◌∙◌, sym, All}
+use Rattle.std.proofs.lemmas.List.{get_or-map, length-map}
 use Rattle.relation_terms.specs.declared.predicate.regions.RegionConstraint.{RegionConstraint}
 use Rattle.relation_terms.specs.declared.predicate.regions.RegionConstraint.TheVariants.{Outlives, Eq}
 use Rattle.relation_terms.specs.declared.terms.generic_arg.GenericArgKind.{GenericArgKind}
@@ -7,10 +8,18 @@ use Rattle.relation_terms.specs.declared.terms.generic_arg.GenericArgKind.TheVar
 use Rattle.relation_terms.specs.Meaning.{Meaning, arg_tree}
 use Rattle.relation_terms.specs.Trees.{known}
 use Rattle.relation_semantics.specs.Constraints.{constraint_of}
-use Rattle.relation_semantics.specs.Stores.{ConstraintIn, IsRegionIn, IsSound, Store}
-use Rattle.relation_regions.proofs.ReadProblems.{recorded_in}
+use Rattle.relation_semantics.specs.Stores.{Constraint, ConstraintIn, IsRegionIn, IsSound, Store}
 use Rattle.relation_regions.proofs.RegionNumbers.{region_known}
 use Rattle.text_users.specs.Rows.{IsSuchArg, SpeaksOfSuch}
+
+-- A recorded constraint is the context's.
+recorded_in : {Q : Type 0} (f : Q → Constraint) (xs : List Q) (st : Store) → map f xs ≡ st.constraints → IsSound st →
+    (i : ℕ) (d : Q) → i < length xs → ConstraintIn st (f (get_or xs i d))
+recorded_in f xs st e h i d lt =
+    let below : i < length st.constraints =
+    subst (λ l. i < length l) e (subst (λ n. i < n) (sym (length-map xs f)) lt) in
+    let same = sym (ap (λ l. get_or l i (f d)) e) ∙ get_or-map f xs i d (f d) lt in
+    subst (ConstraintIn st) same (h.constraints_in i (f d) below)
 
 module _ {Key Id Name : Type 0} (m : Meaning Key Id Name) (st : Store) where
   such_arg : (a : GenericArgKind Key) → IsRegionIn st (arg_tree m a) → IsSuchArg (λ r. known (m.region r)) a

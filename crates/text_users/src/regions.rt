@@ -79,6 +79,7 @@ fn facts_of<C: InferCtxtLike>(
 /// `NoFact` where a variable is stated to outlive a region or to be outlived, what a binder outside binds, or a
 /// placeholder that the context's universe doesn't name, or where a term that is stated to outlive is no region.
 /// `Memory` where a growth was refused.
+#[tactic(auto, using(relation_terms::proofs::Stays::stays_same))]
 pub fn ask_solved<C: RecordedRegions>(
     ctx: &mut C,
     stated: &[StatedOutlives<<C::Interner as Keys>::Key>],

@@ -77,15 +77,22 @@ fn constraint_row<X: Copy>(constraint: &RegionConstraint<X>, before: &'static st
     }
 }
 
-// The next constraint that is named; where there is none, nothing.
+// The constraint of a number; of one that there isn't, nothing.
+fn row_at<X: Copy>(constraints: &[RegionConstraint<X>], at: usize, before: &'static str) -> Row<X>
+    ensures { IsOfConstraints constraints.now result }
+{
+    match constraints.get(at) {
+        Some(constraint) => constraint_row(constraint, before),
+        None => text_row(""),
+    }
+}
+
+// The next constraint that is named.
 fn named_row<X: Copy>(constraints: &[RegionConstraint<X>], by: &[usize], number: usize) -> Row<X>
     ensures { IsOfConstraints constraints.now result }
 {
-    let Some(at) = by.get(number) else {
-        return text_row("");
-    };
-    match constraints.get(*at) {
-        Some(constraint) => constraint_row(constraint, text_in(number, ", by ", ", ")),
+    match by.get(number) {
+        Some(at) => row_at(constraints, *at, text_in(number, ", by ", ", ")),
         None => text_row(""),
     }
 }

@@ -1,6 +1,5 @@
 -- What is solved where the facts hold that are stated.
-use Rattle.std.proofs.Common.{sym, subst, All, get_or, ◌∙◌, refl}
-use Rattle.relation_terms.proofs.Stays.{stays_same}
+use Rattle.std.proofs.Common.{sym, subst, All, get_or, ◌∙◌}
 use Rattle.relation_regions.specs.Solving.{IsFactIn, IfMet, IfValued, IfUnmet}
 use Rattle.relation_regions.proofs.Answered.{fact_later}
 use Rattle.text_users.proofs.SolvedLemmas.{solved_known}
@@ -38,23 +37,3 @@ returns-clause-known g c =
     (before i d lt) in
     solved_known n facts (g.met.C.InferCtxtLike.sound c.solve.new.ctx c.solve.ensures.grows.lawful) after
     c.in_ok-solved.solved c.in_ok-solved.ensures.least c.in_ok-solved.ensures.unmet
-
-pub returns-in_err-facts-clause-grows : goal.returns-in_err-facts-clause-grows
-returns-in_err-facts-clause-grows g c =
-    let m = g.C.InferCtxtLike.state c.args.ctx.now in
-    record { extends = stays_same m.meaning; lawful = c.requires.lawful; setup = refl; outliving = refl }
-
-pub returns-in_err-facts-clause-same_record : goal.returns-in_err-facts-clause-same_record
-returns-in_err-facts-clause-same_record g c = refl
-
-pub returns-in_err-solved-clause-grows : goal.returns-in_err-solved-clause-grows
-returns-in_err-solved-clause-grows g c = c.solve.ensures.grows
-
-pub returns-in_err-solved-clause-same_record : goal.returns-in_err-solved-clause-same_record
-returns-in_err-solved-clause-same_record g c = c.solve.ensures.same_record
-
-pub returns-clause-grows : goal.returns-clause-grows
-returns-clause-grows g c = c.solve.ensures.grows
-
-pub returns-clause-same_record : goal.returns-clause-same_record
-returns-clause-same_record g c = c.solve.ensures.same_record
