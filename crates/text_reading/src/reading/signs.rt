@@ -73,6 +73,7 @@ pub enum Sign {
     Of,
     One,
     Opaque,
+    Open,
     Overlap,
     Param,
     Prove,
@@ -106,7 +107,7 @@ pub enum Sign {
 }
 
 // Each sign and its text, in the order of the texts.
-static SIGNS: [(Sign, &str); 98] = [
+static SIGNS: [(Sign, &str); 99] = [
     (Sign::Bang, "!"),
     (Sign::AbiC, "\"C\""),
     (Sign::AbiSystem, "\"system\""),
@@ -175,6 +176,7 @@ static SIGNS: [(Sign, &str); 98] = [
     (Sign::Of, "of"),
     (Sign::One, "one"),
     (Sign::Opaque, "opaque"),
+    (Sign::Open, "open"),
     (Sign::Overlap, "overlap"),
     (Sign::Param, "param"),
     (Sign::Prove, "prove"),

@@ -6,9 +6,9 @@ use crate::reading::shapes::Piece::{Further, Leaf, List, Mark, NextTwo, OneOf, P
 use crate::reading::shapes::{A_NAME, A_NUMBER, A_TERM, ITSELF, Piece, Shape, Sort};
 use crate::reading::signs::Sign::{
     AbiC, AbiSystem, Assign, Assume, Auto, Budget, Closure, Colon, Comma, Const, Coroutine, Extern,
-    Fn, Greater, Impl, Implied, In, Inherent, LeftParen, Less, Let, Minus, Mode, Opaque, Param,
-    PathSep, Plus, Semicolon, Sized, Solver, Star, Struct, Super, Trait, Type, Variables, Where,
-    Witness,
+    Fn, Greater, Impl, Implied, In, Inherent, LeftParen, Less, Let, Minus, Mode, Opaque, Open,
+    Param, PathSep, Plus, Semicolon, Sized, Solver, Star, Struct, Super, Trait, Type, Variables,
+    Where, Witness,
 };
 use crate::reading::tree::{Form, ItemSort, Setting, StatedKind};
 use term_enums::Variance;
@@ -20,7 +20,7 @@ const PARAMETERS: Piece = List(Sort::Declared, To(Greater));
 const TYPE_OR_CONST: Expected = Expected::Either(Type, Const);
 
 // A statement, without the `;` behind it. A function pointer that begins one is asked about.
-pub(in crate::reading) static STATEMENT: [Shape; 32] = [
+pub(in crate::reading) static STATEMENT: [Shape; 33] = [
     (ITSELF, &[NextTwo(Fn, LeftParen), Part(Sort::Question)]),
     (ITSELF, &[NextTwo(Extern, AbiC), Part(Sort::Question)]),
     (ITSELF, &[NextTwo(Extern, AbiSystem), Part(Sort::Question)]),
@@ -166,6 +166,17 @@ pub(in crate::reading) static STATEMENT: [Shape; 32] = [
     (
         Node(Form::Impl),
         &[
+            Mark(Impl),
+            Part(Sort::Generics),
+            Part(Sort::Given),
+            Further(Where),
+            List(Sort::Predicate, By(Comma)),
+        ],
+    ),
+    (
+        Node(Form::OpenImpl),
+        &[
+            Mark(Open),
             Mark(Impl),
             Part(Sort::Generics),
             Part(Sort::Given),
