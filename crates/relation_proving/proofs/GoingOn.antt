@@ -1,7 +1,8 @@
 -- What may be asked and used stays so in a later context, and what was first-order is.
 use Rattle.std.proofs.Common.{◌≡◌, ℕ, zero, suc, ◌<◌, List, [], ◌∷◌, refl, sym, ap, subst, All, IsTrue, length}
-use Rattle.std.proofs.Common.{get_or, arith, Option, Some, None}
-use Rattle.std.specs.Prelude.{IfSome}
+use Rattle.std.proofs.Common.{get_or, arith, Option, Some, None, Bool, ◌∙◌, subst₂}
+use Rattle.std.proofs.lemmas.Bool.{true≢false}
+use Rattle.std.specs.Prelude.{IfSome, is_some}
 use Rattle.std.specs.List.{AllZip}
 use Rattle.std.proofs.lemmas.List.Elements.{All-head, All-tail}
 use Rattle.relation_terms.specs.declared.terms.binder.Binder.{Binder}
@@ -24,7 +25,8 @@ use Rattle.kept_records.proofs.Kept.{same_through}
 use Rattle.relation_proving.specs.RuleTerms.{IsRule, IsRuleOf, rule_tree}
 use Rattle.relation_proving.specs.Candidates.{MayAsk, IsFirstOrderAt, IsFirstOrderClause, IsFirstOrderRule}
 use Rattle.relation_proving.specs.RuleTerms.{MayUse}
-use Rattle.relation_proving.specs.Telling.{MayProve, GoesOn, IsBack, IsExact, KnowsBlame, goal_tree}
+use Rattle.relation_proving.specs.Telling.{MayProve, GoesOn, IsBack, IsExact, KnowsBlame, goal_tree, ComesToOne}
+use Rattle.relation_solver.specs.Traces.{HasOneValue}
 use Rattle.relation_proving.specs.declared.told.Blame.{Blame}
 use Rattle.relation_proving.proofs.Candidates.{ask_later}
 
@@ -160,3 +162,10 @@ module _ {Key Id Name : Type 0} where
       (rs : List Rule) → All (MayUse c) ks → IsExact u c ks rs → IsExact u d ks rs
   exact_back c d b ks u rs h f = exact_on c d (back_goes c d b) ks u rs h
       (subst (IsFirstOrderAt u) (sym (b.same).store) f.store) f
+
+  -- So is a goal of which all solutions made one thing, where what it comes to was found.
+  pub one_is : (c d : Context Key Id Name) (g : ClauseKey Key) → MayAsk c g → IsBack c d → (found : Option (ClauseKey Key)) →
+      ComesToOne c d g found → (enough : Bool) → enough ≡ is_some found → IsTrue enough →
+      HasOneValue d.store (goal_tree d g)
+  one_is c d g may b (Some k) one enough e h = subst₂ HasOneValue (sym (b.same).store) (sym ((b.grown).clause g may.is_known)) one.one
+  one_is c d g may b None one enough e h = absurd (true≢false (sym h ∙ e))

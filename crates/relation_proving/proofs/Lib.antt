@@ -13,3 +13,4 @@ pub mod OtherSubjects
 pub mod Searches
 pub mod Meaning
 pub mod Checked
+pub mod Ordered

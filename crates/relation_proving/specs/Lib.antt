@@ -8,3 +8,5 @@ pub mod Telling
 pub mod Searching
 pub mod Answers
 pub mod Checking
+pub mod Spent
+pub mod Ordering

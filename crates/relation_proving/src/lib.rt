@@ -13,4 +13,5 @@ mod ordering;
 pub mod proving;
 pub mod reading;
 mod searching;
+mod spent;
 mod told;

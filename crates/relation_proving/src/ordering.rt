@@ -1,9 +1,10 @@
 //! Which goals of a list are asked last.
-ghost use Rattle.std.specs.Prelude.{IsTrue};
+ghost use Rattle.std.specs.Prelude.{◌↔◌, IsTrue};
 ghost use Rattle.relation_terms.specs.Meaning.{arg_tree};
 ghost use Rattle.relation_terms.specs.Trees.{known};
 ghost use Rattle.relation_semantics.specs.Stores.{IsTermIn};
 ghost use Rattle.relation_proving.specs.Candidates.{MayAsk};
+ghost use Rattle.relation_proving.specs.Ordering.{ComesToVariable, IsOfVariable};
 
 use crate::reading::{args_of, clause_body};
 use relation_semantics::infer_ctxt::InferCtxtLike;
@@ -15,11 +16,13 @@ fn is_open<C: InferCtxtLike>(ctx: &C, arg: &GenericArg<C::Interner>) -> bool
     requires lawful { (C.state ctx.now).lawful }
     requires arg_known { IsTrue (known (arg_tree (C.state ctx.now).meaning arg.now)) }
     requires arg_in { IsTermIn (C.state ctx.now).store (arg_tree (C.state ctx.now).meaning arg.now) }
+    ensures { let c = C.state ctx.now in IsTrue result ↔ ComesToVariable c (arg_tree c.meaning arg.now) }
 {
+    let cx = ctx.cx();
     match arg {
         GenericArgKind::Ty(ty) => {
             let read = ctx.shallow_resolve(ty);
-            ty_vid(&ctx.cx().ty_kind(&read)).is_some()
+            ty_vid(&cx.ty_kind(&read)).is_some()
         }
         GenericArgKind::Const(_) | GenericArgKind::Lifetime(_) => false,
     }
@@ -30,6 +33,7 @@ fn is_open<C: InferCtxtLike>(ctx: &C, arg: &GenericArg<C::Interner>) -> bool
 pub(crate) fn is_of_variable<C: InferCtxtLike>(ctx: &C, goal: &Clause<C::Interner>) -> bool
     requires lawful { (C.state ctx.now).lawful }
     requires goal { MayAsk (C.state ctx.now) goal.now }
+    ensures { IsTrue result ↔ IsOfVariable (C.state ctx.now) goal.now }
 {
     let cx = ctx.cx();
     let Some(body) = clause_body(cx, goal) else {

@@ -1,7 +1,8 @@
 //! Whether a goal follows from rules, within a depth.
-ghost use Rattle.std.specs.Prelude.{◌<◌, All, length, IfOk};
+ghost use Rattle.std.specs.Prelude.{◌<◌, All, length, IfOk, IsTrue};
 ghost use Rattle.relation_terms.specs.Meaning.{Extends};
 ghost use Rattle.relation_semantics.specs.Steps.{IsLater};
+ghost use Rattle.relation_solver.specs.Traces.{HasOneValue};
 ghost use Rattle.relation_proving.specs.Candidates.{MayAsk};
 ghost use Rattle.relation_proving.specs.RuleTerms.{MayUse};
 ghost use Rattle.relation_proving.specs.Telling.{MayProve, GoesOn, IsBack, TellsGoal, TellsAll, TellsRule};
@@ -19,11 +20,12 @@ use crate::searching::{
     Round, RoundOf, Search, Tried, TriedOf, Verdict, VerdictOf, is_over, keep_told, settle,
     with_tried, worse,
 };
+use crate::spent::SpentGoals;
 pub use crate::told::{Blame, BlameOf, Told, ToldOf, Why};
 use kept_records::KeepsRecord;
 use relation_folds::error::RelateResult;
 use relation_solver::laws;
-use relation_terms::terms::{Clause, ParamEnv, Span};
+use relation_terms::terms::{Clause, Interner, ParamEnv, Span};
 
 /// Whether a goal follows from rules, within a depth: such as impls, and what an environment has, each of its clauses
 /// as a rule that binds nothing and asks for nothing.
@@ -74,10 +76,11 @@ pub fn prove<C: KeepsRecord>(
 {
     laws::derivations();
     laws::goals();
-    follows(ctx, rules, param_env, goal, depth, span)
+    let mut spent = SpentGoals::new(ctx.cx().alloc());
+    follows(ctx, rules, param_env, goal, depth, span, &mut spent)
 }
 
-// Whether a goal follows.
+// Whether a goal follows. One whose depth was spent with as many levels left spends it again.
 #[cycle(proving)]
 fn follows<C: KeepsRecord>(
     ctx: &mut C,
@@ -86,6 +89,7 @@ fn follows<C: KeepsRecord>(
     goal: &Clause<C::Interner>,
     depth: usize,
     span: Span<C::Interner>,
+    spent: &mut SpentGoals<Clause<C::Interner>>,
 ) -> RelateResult<C::Interner, ToldOf<C::Interner>>
     requires may { MayProve (C.state ctx.old) rules.now param_env }
     requires goal { MayAsk (C.state ctx.old) goal.now }
@@ -95,13 +99,43 @@ fn follows<C: KeepsRecord>(
     if depth == 0 {
         return Ok(Told::Maybe(Why::Depth));
     }
-    let enough = comes_to_one(ctx, goal)?;
+    let one = comes_to_one(ctx, goal)?;
+    if spent.spends(&one, depth) {
+        return Ok(Told::Maybe(Why::Depth));
+    }
+    let enough = one.is_some();
+    let told = follows_by_some(ctx, rules, param_env, goal, enough, depth - 1, span, spent)?;
+    spent.insert(one, &told, depth)?;
+    Ok(told)
+}
+
+// Whether a goal follows by some rule. Of one of which all solutions make one thing the first by which it follows is
+// enough.
+#[cycle(proving)]
+fn follows_by_some<C: KeepsRecord>(
+    ctx: &mut C,
+    rules: &[RuleOf<C::Interner>],
+    param_env: ParamEnv<C::Interner>,
+    goal: &Clause<C::Interner>,
+    enough: bool,
+    depth: usize,
+    span: Span<C::Interner>,
+    spent: &mut SpentGoals<Clause<C::Interner>>,
+) -> RelateResult<C::Interner, ToldOf<C::Interner>>
+    requires may { MayProve (C.state ctx.old) rules.now param_env }
+    requires goal { MayAsk (C.state ctx.old) goal.now }
+    requires one { let c = C.state ctx.old in IsTrue enough → HasOneValue c.store ((c.meaning).clause goal.now) }
+    ensures goes_on { GoesOn (C.state ctx.old) (C.state ctx.new) }
+    ensures tells { IfOk result (TellsGoal (C.state ctx.old) (C.state ctx.new) rules.now param_env goal.now) }
+{
     let mut search = Search::Nothing(None);
     for (place, rule) in rules.iter().enumerate() {
         if is_over(&search, enough) {
             return Ok(settle(ctx, search));
         }
-        let tried = try_and_put_back(ctx, rules, param_env, *rule, place, goal, depth - 1, span)?;
+        let tried = try_and_put_back(
+            ctx, rules, param_env, *rule, place, goal, depth, span, spent,
+        )?;
         search = with_tried(search, place, tried, enough);
     }
     Ok(settle(ctx, search))
@@ -118,6 +152,7 @@ fn try_and_put_back<C: KeepsRecord>(
     goal: &Clause<C::Interner>,
     depth: usize,
     span: Span<C::Interner>,
+    spent: &mut SpentGoals<Clause<C::Interner>>,
 ) -> RelateResult<C::Interner, TriedOf<C::Record, C::Interner>>
     requires may { MayProve (C.state ctx.old) rules.now param_env }
     requires rule { MayUse (C.state ctx.old) rule }
@@ -132,7 +167,7 @@ fn try_and_put_back<C: KeepsRecord>(
         return Ok(Tried::Fails(None));
     }
     let before = ctx.keep()?;
-    let told = follows_by(ctx, rules, param_env, rule, place, goal, depth, span)?;
+    let told = follows_by(ctx, rules, param_env, rule, place, goal, depth, span, spent)?;
     let tried = keep_told(&*ctx, told)?;
     ctx.put_back(before);
     Ok(tried)
@@ -149,6 +184,7 @@ fn follows_by<C: KeepsRecord>(
     goal: &Clause<C::Interner>,
     depth: usize,
     span: Span<C::Interner>,
+    spent: &mut SpentGoals<Clause<C::Interner>>,
 ) -> RelateResult<C::Interner, VerdictOf<C::Interner>>
     requires may { MayProve (C.state ctx.old) rules.now param_env }
     requires rule { MayUse (C.state ctx.old) rule }
@@ -158,7 +194,7 @@ fn follows_by<C: KeepsRecord>(
     ensures tells { IfOk result (TellsRule (C.state ctx.old) (C.state ctx.new) rules.now param_env rule goal.now) }
 {
     match try_rule(ctx, param_env, rule, goal, span)? {
-        Candidate::Asks(asks) => all_follow(ctx, rules, param_env, asks, place, depth, span),
+        Candidate::Asks(asks) => all_follow(ctx, rules, param_env, asks, place, depth, span, spent),
         Candidate::Apart => Ok(Verdict::Refuted(None)),
         Candidate::Unclear => Ok(Verdict::Untold(Why::Ambiguous)),
     }
@@ -174,6 +210,7 @@ fn all_follow<C: KeepsRecord>(
     place: usize,
     depth: usize,
     span: Span<C::Interner>,
+    spent: &mut SpentGoals<Clause<C::Interner>>,
 ) -> RelateResult<C::Interner, VerdictOf<C::Interner>>
     requires may { MayProve (C.state ctx.old) rules.now param_env }
     requires asks { All (MayAsk (C.state ctx.old)) asks.items }
@@ -183,7 +220,7 @@ fn all_follow<C: KeepsRecord>(
 {
     let mut left = asks;
     'rounds: while !left.is_empty() {
-        match one_follows(ctx, rules, param_env, &left, place, depth, span)? {
+        match one_follows(ctx, rules, param_env, &left, place, depth, span, spent)? {
             Round::Proved(number) => {
                 left.remove(number);
             }
@@ -205,6 +242,7 @@ fn one_follows<C: KeepsRecord>(
     by: usize,
     depth: usize,
     span: Span<C::Interner>,
+    spent: &mut SpentGoals<Clause<C::Interner>>,
 ) -> RelateResult<C::Interner, RoundOf<C::Interner>>
     requires may { MayProve (C.state ctx.old) rules.now param_env }
     requires goals { All (MayAsk (C.state ctx.old)) goals.now }
@@ -218,7 +256,7 @@ fn one_follows<C: KeepsRecord>(
             if is_of_variable(&*ctx, goal) != of_variable {
                 continue;
             }
-            match follows(ctx, rules, param_env, goal, depth, span)? {
+            match follows(ctx, rules, param_env, goal, depth, span, spent)? {
                 Told::Yes(_) => return Ok(Round::Proved(place)),
                 Told::No(named) => {
                     let blame = blame_of(ctx, rules, named, goal, by)?;

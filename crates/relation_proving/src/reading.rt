@@ -1,12 +1,11 @@
 //! Clauses whose binders bind nothing, those that come to one thing, and of which traits and items clauses are.
 ghost use Rattle.std.specs.Prelude.{◌≡◌, IfOk, IfSome, IsSome, IsTrue, Some};
 ghost use Rattle.relation_terms.specs.Trees.{known};
-ghost use Rattle.relation_solver.specs.Traces.{HasOneValue};
 ghost use Rattle.relation_proving.specs.Bodies.{FindsBody, FindsUnbound};
 ghost use Rattle.relation_proving.specs.Candidates.{MayAsk};
 ghost use Rattle.relation_proving.specs.RuleTerms.{rule_tree};
 ghost use Rattle.relation_proving.specs.Subjects.{args_of as arguments_of, AreOfTwo, GivesAnother};
-ghost use Rattle.relation_proving.specs.Telling.{IsBack};
+ghost use Rattle.relation_proving.specs.Telling.{IsBack, ComesToOne};
 
 use crate::opening::RuleOf;
 use relation_folds::visit::has_non_region_infer;
@@ -42,26 +41,28 @@ pub fn clause_body<I: Interner>(cx: &I, clause: &Clause<I>) -> Option<ClauseKind
     unbound(cx, form)
 }
 
-/// Whether no variable but of regions stands in a goal, or in what it comes to by what is recorded: so all solutions
-/// make one of it, up to erasure.
+/// What a goal comes to by what is recorded, if no variable but of regions stands in it: then all solutions make one of
+/// it, up to erasure.
 ///
 /// # Errors
 /// `OutOfMemory` where a growth was refused. Nothing is recorded.
 pub(crate) fn comes_to_one<C: InferCtxtLike>(
     ctx: &mut C,
     goal: &Clause<C::Interner>,
-) -> Result<bool, OutOfMemory>
+) -> Result<Option<Clause<C::Interner>>, OutOfMemory>
     requires lawful { (C.state ctx.old).lawful }
     requires goal { MayAsk (C.state ctx.old) goal.now }
     ensures back { IsBack (C.state ctx.old) (C.state ctx.new) }
-    ensures one { let c = C.state ctx.old in
-        IfOk result (λ r. IsTrue r → HasOneValue c.store ((c.meaning).clause goal.now)) }
+    ensures one { IfOk result (ComesToOne (C.state ctx.old) (C.state ctx.new) goal.now) }
 {
     if !has_non_region_infer(ctx.cx(), goal) {
-        return Ok(true);
+        return Ok(Some(*goal));
     }
     let resolved = ctx.resolve_vars_if_possible(goal)?;
-    Ok(!has_non_region_infer(ctx.cx(), &resolved))
+    if has_non_region_infer(ctx.cx(), &resolved) {
+        return Ok(None);
+    }
+    Ok(Some(resolved))
 }
 
 /// The arguments of the trait or the item that a clause says something of.

@@ -16,5 +16,5 @@ shallow_resolve-read-requires g c =
 
 pub ty_kind-requires : goal.ty_kind-requires
 ty_kind-requires g c =
-    subst (λ m. IsTrue (known (m.ty c.shallow_resolve-read.result))) (sym c.cx.ensures)
+    subst (λ m. IsTrue (known (m.ty c.shallow_resolve-read.result))) (sym c.cx-cx.ensures)
     c.shallow_resolve-read.ensures.reads.sure

@@ -8,8 +8,8 @@ use Rattle.relation_proving.proofs.Barred.{never_fails}
 use Rattle.relation_proving.specs.Telling.{GoesOn, TellsGoal}
 use Rattle.relation_proving.specs.Searching.{TellsRound}
 use Rattle.relation_proving.proofs.GoingOn.{goes_itself, goes_through, back_itself, back_through, back_goes}
-use Rattle.relation_proving.proofs.GoingOn.{uses_on, proves_on, ask_on, asks_on}
-use Rattle.relation_proving.proofs.Answering.{by_asks_result, by_apart, AsksOn, asking_begins, asking_ended}
+use Rattle.relation_proving.proofs.GoingOn.{uses_on, proves_on, ask_on, asks_on, one_is}
+use Rattle.relation_proving.proofs.Answering.{goal_back, by_asks_result, by_apart, AsksOn, asking_begins, asking_ended}
 use Rattle.relation_proving.proofs.Answering.{asking_goes_on, asking_fails, round_proved, round_failed, named_known}
 use Rattle.relation_proving.proofs.Searches.{Searches, search_begins, search_goes_on, search_ends, may_settle, settles_goes}
 use Rattle.relation_proving.proofs.Searches.{settles_tells, tried_tells, put_back_grown, put_back_back}
@@ -19,24 +19,63 @@ use Rattle.relation_proving.proofs.proving.+proving.Goals as goal
 pub follows-comes_to_one-requires : goal.follows-comes_to_one-requires
 follows-comes_to_one-requires g t c = record { lawful = c.requires.may.lawful; goal = c.requires.goal }
 
-pub follows-returns-in_err-enough-clause-goes_on : goal.follows-returns-in_err-enough-clause-goes_on
-follows-returns-in_err-enough-clause-goes_on g t c =
+pub follows-returns-in_err-one-clause-goes_on : goal.follows-returns-in_err-one-clause-goes_on
+follows-returns-in_err-one-clause-goes_on g t c =
     back_goes (g.C.InferCtxtLike.state c.args.ctx.now) (g.C.InferCtxtLike.state c.comes_to_one.new.ctx)
-    c.in_err-enough.ensures.back
+    c.in_err-one.ensures.back
 
 pub follows-returns-then-depth-eq0 : goal.follows-returns-then-depth-eq0
 follows-returns-then-depth-eq0 g t c =
     let s = g.C.InferCtxtLike.state c.args.ctx.now in
     record { goes_on = goes_itself s c.requires.may.lawful; tells = back_itself s c.requires.may.lawful }
 
-pub follows-loop-place-init : goal.follows-loop-place-init
-follows-loop-place-init g t c =
+pub follows-returns-then-spends : goal.follows-returns-then-spends
+follows-returns-then-spends g t c =
+    let s = g.C.InferCtxtLike.state c.args.ctx.now in
+    let d = g.C.InferCtxtLike.state c.comes_to_one.new.ctx in
+    record { goes_on = back_goes s d c.in_ok-one.ensures.back; tells = c.in_ok-one.ensures.back }
+
+pub follows-follows_by_some-requires : goal.follows-follows_by_some-requires
+follows-follows_by_some-requires g t c κs within =
+    let s = g.C.InferCtxtLike.state c.args.ctx.now in
+    let d = g.C.InferCtxtLike.state c.comes_to_one.new.ctx in
+    let back = c.in_ok-one.ensures.back in
+    let on = back_goes s d back in
+    let m = c.decreases in
+    let may = proves_on s d on c.args.rules.now c.args.param_env c.requires.may in
+    let asked = ask_on s d on c.args.goal.now c.requires.goal in
+    let one = one_is s d c.args.goal.now c.requires.goal back c.in_ok-one.one c.in_ok-one.ensures.one
+    c.is_some-enough.result c.is_some-enough.ensures in
+    search rules
+
+pub follows-returns-in_err-told-clause-goes_on : goal.follows-returns-in_err-told-clause-goes_on
+follows-returns-in_err-told-clause-goes_on g t c =
+    let s = g.C.InferCtxtLike.state c.args.ctx.now in
+    let d = g.C.InferCtxtLike.state c.comes_to_one.new.ctx in
+    let e = g.C.InferCtxtLike.state c.follows_by_some.new.ctx in
+    goes_through s d e (back_goes s d c.in_ok-one.ensures.back) c.in_err-told.ensures.goes_on
+
+pub follows-returns : goal.follows-returns
+follows-returns g t c =
+    let s = g.C.InferCtxtLike.state c.args.ctx.now in
+    let d = g.C.InferCtxtLike.state c.comes_to_one.new.ctx in
+    let e = g.C.InferCtxtLike.state c.follows_by_some.new.ctx in
+    let back = c.in_ok-one.ensures.back in
+    record {
+      goes_on = goes_through s d e (back_goes s d back) c.in_ok-told.ensures.goes_on;
+      tells = goal_back s d e back c.args.rules.now c.args.param_env c.requires.may.env_known c.requires.may.rules
+          c.args.goal.now c.requires.goal c.in_ok-told.told c.in_ok-told.ensures.tells;
+    }
+
+-- A goal by some rule.
+pub follows_by_some-loop-place-init : goal.follows_by_some-loop-place-init
+follows_by_some-loop-place-init g t c =
     let s = g.C.InferCtxtLike.state c.args.ctx.now in
     search_begins g.C.InferCtxtLike.state g.C.KeepsRecord.with_record s c.args.rules.now c.args.param_env c.args.goal.now
-    c.comes_to_one.new.ctx c.in_ok-enough.ensures.back
+    c.args.ctx.now (back_itself s c.requires.may.lawful)
 
-pub follows-try_and_put_back-requires : goal.follows-try_and_put_back-requires
-follows-try_and_put_back-requires g t c κs within =
+pub follows_by_some-try_and_put_back-requires : goal.follows_by_some-try_and_put_back-requires
+follows_by_some-try_and_put_back-requires g t c κs within =
     let s = g.C.InferCtxtLike.state c.args.ctx.now in
     let d = g.C.InferCtxtLike.state c.loop-place.ctx in
     let on = back_goes s d c.loop-place.invariant.back in
@@ -48,15 +87,15 @@ follows-try_and_put_back-requires g t c κs within =
     let asked = ask_on s d on c.args.goal.now c.requires.goal in
     search rules
 
-pub follows-returns-in_err-tried-clause-goes_on : goal.follows-returns-in_err-tried-clause-goes_on
-follows-returns-in_err-tried-clause-goes_on g t c =
+pub follows_by_some-returns-in_err-tried-clause-goes_on : goal.follows_by_some-returns-in_err-tried-clause-goes_on
+follows_by_some-returns-in_err-tried-clause-goes_on g t c =
     let s = g.C.InferCtxtLike.state c.args.ctx.now in
     let d = g.C.InferCtxtLike.state c.loop-place.ctx in
     let e = g.C.InferCtxtLike.state c.try_and_put_back.new.ctx in
     goes_through s d e (back_goes s d c.loop-place.invariant.back) c.in_err-tried.ensures.goes_on
 
-pub follows-loop-place-preserved : goal.follows-loop-place-preserved
-follows-loop-place-preserved g t c =
+pub follows_by_some-loop-place-preserved : goal.follows_by_some-loop-place-preserved
+follows_by_some-loop-place-preserved g t c =
     let s = g.C.InferCtxtLike.state c.args.ctx.now in
     let inv = c.loop-place.invariant in
     subst (Searches g.C.InferCtxtLike.state g.C.KeepsRecord.with_record s c.args.rules.now c.args.param_env c.args.goal.now
@@ -64,15 +103,15 @@ follows-loop-place-preserved g t c =
     (search_goes_on g.C.InferCtxtLike.state g.C.KeepsRecord.with_record s c.args.rules.now c.args.param_env c.args.goal.now
     c.loop-place.ctx c.try_and_put_back.new.ctx c.loop-place.place c.index-rules-place.result c.loop-place-test.true
     c.index-rules-place.is c.requires.may.env_known c.requires.may.rules c.requires.goal inv.back c.in_ok-tried.ensures.back
-    c.in_ok-enough.enough c.in_ok-enough.ensures.one c.loop-place.search c.in_ok-tried.tried inv.tells
+    c.args.enough c.requires.one c.loop-place.search c.in_ok-tried.tried inv.tells
     c.in_ok-tried.ensures.tells)
 
 -- No other rule counts.
-pub follows-settle-requires : goal.follows-settle-requires
-follows-settle-requires g t c =
+pub follows_by_some-settle-requires : goal.follows_by_some-settle-requires
+follows_by_some-settle-requires g t c =
     let s = g.C.InferCtxtLike.state c.args.ctx.now in
     let over = search_ends g.C.InferCtxtLike.state g.C.KeepsRecord.with_record s c.args.rules.now c.args.param_env c.args.goal.now
-    c.loop-place.ctx c.loop-place.place c.in_ok-enough.enough c.in_ok-enough.ensures.one c.loop-place.search
+    c.loop-place.ctx c.loop-place.place c.args.enough c.requires.one c.loop-place.search
     (sym c.is_over.ensures ∙ c.if-is_over.true) c.loop-place.invariant in
     record {
       may = may_settle g.C.InferCtxtLike.state g.C.KeepsRecord.with_record s c.args.rules.now c.args.param_env c.args.goal.now
@@ -80,11 +119,11 @@ follows-settle-requires g t c =
           c.loop-place.search over.tells;
     }
 
-pub follows-returns-then-is_over : goal.follows-returns-then-is_over
-follows-returns-then-is_over g t c =
+pub follows_by_some-returns-then-is_over : goal.follows_by_some-returns-then-is_over
+follows_by_some-returns-then-is_over g t c =
     let s = g.C.InferCtxtLike.state c.args.ctx.now in
     let over = search_ends g.C.InferCtxtLike.state g.C.KeepsRecord.with_record s c.args.rules.now c.args.param_env c.args.goal.now
-    c.loop-place.ctx c.loop-place.place c.in_ok-enough.enough c.in_ok-enough.ensures.one c.loop-place.search
+    c.loop-place.ctx c.loop-place.place c.args.enough c.requires.one c.loop-place.search
     (sym c.is_over.ensures ∙ c.if-is_over.true) c.loop-place.invariant in
     record {
       goes_on = settles_goes g.C.InferCtxtLike.state g.C.KeepsRecord.with_record s c.args.rules.now c.args.param_env c.args.goal.now
@@ -96,8 +135,8 @@ follows-returns-then-is_over g t c =
     }
 
 -- All rules were tried.
-pub follows-settle-requires-2 : goal.follows-settle-requires-2
-follows-settle-requires-2 g t c =
+pub follows_by_some-settle-requires-2 : goal.follows_by_some-settle-requires-2
+follows_by_some-settle-requires-2 g t c =
     let s = g.C.InferCtxtLike.state c.args.ctx.now in
     let test = c.loop-place-test.false in
     record {
@@ -106,8 +145,8 @@ follows-settle-requires-2 g t c =
           c.loop-place.invariant.tells;
     }
 
-pub follows-returns : goal.follows-returns
-follows-returns g t c =
+pub follows_by_some-returns : goal.follows_by_some-returns
+follows_by_some-returns g t c =
     let s = g.C.InferCtxtLike.state c.args.ctx.now in
     let test = c.loop-place-test.false in
     let all : length c.args.rules.now ≤ c.loop-place.place = omega (arith, test) in

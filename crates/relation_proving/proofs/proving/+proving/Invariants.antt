@@ -5,23 +5,26 @@ use Rattle.relation_proving.proofs.Searches.{Searches}
 use Rattle.relation_proving.proofs.proving.+proving.Given as goal
 
 abbrev pub decreases-follows : goal.decreases-follows
-decreases-follows g l = 5 * l.depth
+decreases-follows g l = 6 * l.depth
+
+abbrev pub decreases-follows_by_some : goal.decreases-follows_by_some
+decreases-follows_by_some g l = 6 * l.depth + 5
 
 abbrev pub decreases-try_and_put_back : goal.decreases-try_and_put_back
-decreases-try_and_put_back g l = 5 * l.depth + 4
+decreases-try_and_put_back g l = 6 * l.depth + 4
 
 abbrev pub decreases-follows_by : goal.decreases-follows_by
-decreases-follows_by g l = 5 * l.depth + 3
+decreases-follows_by g l = 6 * l.depth + 3
 
 abbrev pub decreases-all_follow : goal.decreases-all_follow
-decreases-all_follow g l = 5 * l.depth + 2
+decreases-all_follow g l = 6 * l.depth + 2
 
 abbrev pub decreases-one_follows : goal.decreases-one_follows
-decreases-one_follows g l = 5 * l.depth + 1
+decreases-one_follows g l = 6 * l.depth + 1
 
 -- By the rules so far this is known.
-abbrev pub invariant-follows-loop-place : goal.invariant-follows-loop-place
-invariant-follows-loop-place g l = Searches g.C.InferCtxtLike.state g.C.KeepsRecord.with_record
+abbrev pub invariant-follows_by_some-loop-place : goal.invariant-follows_by_some-loop-place
+invariant-follows_by_some-loop-place g l = Searches g.C.InferCtxtLike.state g.C.KeepsRecord.with_record
     (g.C.InferCtxtLike.state l.fn.ctx) l.rules l.param_env l.goal l.ctx l.place l.search
 
 -- What is left to ask answers the whole list.
