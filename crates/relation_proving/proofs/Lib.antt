@@ -10,7 +10,12 @@ pub mod Answering
 pub mod OneValue
 pub mod Barred
 pub mod OtherSubjects
+pub mod OneRule
 pub mod Searches
+pub mod Firsts
+pub mod WellBound
+pub mod Reading
+pub mod Remembered
 pub mod Meaning
 pub mod Checked
 pub mod Ordered

@@ -1,11 +1,10 @@
 -- What is known of the rules for a goal, as they are gone through.
-use Rattle.std.proofs.Common.{◌≡◌, ◌⊎◌, ℕ, ◌+◌, ◌<◌, ◌≤◌, List, [], ◌∷◌, ◌++◌, refl, sym, subst, All, length}
-use Rattle.std.proofs.Common.{get_or, take, arith, inl, inr, Bool, true, false, Option, Some, None}
+use Rattle.std.proofs.Common.{◌≡◌, ℕ, ◌+◌, ◌<◌, ◌≤◌, List, [], ◌∷◌, ◌++◌, refl, sym, subst, All, length}
+use Rattle.std.proofs.Common.{get_or, take, arith, true, Option, Some, None}
 use Rattle.std.specs.Prelude.{Contains, IfSome}
 use Rattle.std.specs.List.{AllZip}
 use Rattle.std.proofs.lemmas.Bool.{true≢false}
-use Rattle.std.proofs.lemmas.List.{take_all, take_more}
-use Rattle.std.proofs.lemmas.List.Elements.{All-get_or, Contains-get_or}
+use Rattle.std.proofs.lemmas.List.{take_all}
 use Rattle.relation_terms.specs.declared.terms.binder.Binder.{Binder}
 use Rattle.relation_terms.specs.declared.terms.keys.ClauseKey.{ClauseKey}
 use Rattle.relation_terms.specs.declared.terms.keys.ClausesKey.{ClausesKey}
@@ -16,11 +15,10 @@ use Rattle.relation_terms.proofs.Stays.{extends_on, stays_same}
 use Rattle.relation_semantics.specs.Contexts.{Context, KnowsEnv}
 use Rattle.relation_semantics.specs.Lawful.{items_of}
 use Rattle.relation_semantics.specs.Steps.{IsLater}
-use Rattle.relation_semantics.specs.Stores.{IsSound}
 use Rattle.kept_records.specs.Records.{SameRecord, IsRecordOf, StandsOn}
 use Rattle.relation_solver.specs.Rules.{Rule, given}
-use Rattle.relation_solver.specs.Traces.{Did, goal, rule, yes, no, FollowsBy, ProvesBy, took_first, HasOneValue}
-use Rattle.relation_solver.proofs.Going.{AllFail, AllOthersFail, one_more_fails, first_found, one_other_fails, all_fail}
+use Rattle.relation_solver.specs.Traces.{Did, goal, rule, yes, no, FollowsBy, ProvesBy}
+use Rattle.relation_solver.proofs.Going.{AllFail, AllOthersFail, all_fail}
 use Rattle.relation_solver.proofs.Going.{takes_alone}
 use Rattle.kept_records.proofs.Kept.{may_put_back, put_back_is, put_back_means}
 use Rattle.relation_proving.specs.declared.told.Blame.{Blame}
@@ -38,13 +36,9 @@ use Rattle.relation_proving.specs.Telling.{SaysYesBy, IsProvedBy, KnowsBlame, ru
 use Rattle.relation_proving.specs.RuleTerms.{IsRuleOf}
 use Rattle.relation_proving.specs.Searching.{first_of, search_after, ends, told_by, settled, HasKept, KeepsTold, MaySettle}
 use Rattle.relation_proving.specs.Searching.{TellsTried}
-use Rattle.relation_proving.proofs.GoingOn.{zip_length, zip_at, goes_through, back_through, back_goes, blame_on}
-use Rattle.relation_proving.proofs.Answering.{rule_back}
-
-first_known : {Key : Type 0} (P : Blame Key → Type 0) (a b : Option (Blame Key)) → IfSome a P → IfSome b P →
-    IfSome (first_of a b) P
-first_known P (Some a) b h k = h
-first_known P None b h k = k
+use Rattle.relation_proving.proofs.GoingOn.{zip_length, goes_through, back_through, back_goes, blame_on}
+use Rattle.relation_proving.proofs.OneRule.{first_known, fails_still, says_yes_by, is_proved_by, others_fail_still}
+use Rattle.relation_proving.proofs.OneRule.{others_fail_first}
 
 module _ {S R Key Id Name : Type 0} (state : S → Context Key Id Name) (with_record : S → R → S) where
   -- A record that was kept may be put back also once the interner has come to know more.
@@ -59,12 +53,12 @@ module _ {S R Key Id Name : Type 0} (state : S → Context Key Id Name) (with_re
 
   module _ (c : Context Key Id Name) (ks : List (Binder Key (ClausesKey Key))) (env : ParamEnvKey Key)
       (g : ClauseKey Key) where
-    -- By the first n rules it follows by one alone, or by one where that is enough.
+    -- By the first n rules it follows by one alone.
     pub record Only (there : S) (n u : ℕ) (rs : List Rule) : Type 0 where
       pub by : Rule
       pub follows : FollowsBy u [] rs c.store (state there).store by (goal_tree c g)
       pub store : IsFirstOrderAt u (state there).store
-      pub others : HasOneValue c.store (goal_tree c g) ⊎ AllOthersFail u [] rs c.store by (goal_tree c g) (take n rs)
+      pub others : AllOthersFail u [] rs c.store by (goal_tree c g) (take n rs)
 
     -- What is known of the first n rules.
     abbrev pub TellsSearch : S → ℕ → Search R Key → Type 0
@@ -89,45 +83,19 @@ module _ {S R Key Id Name : Type 0} (state : S → Context Key Id Name) (with_re
     module _ (now then : S) (n : ℕ) (k : Binder Key (ClausesKey Key)) (l : n < length ks) (is : k ≡ get_or ks n k)
         (known_env : KnowsEnv c env) (uses : All (MayUse c) ks) (asked : MayAsk c g) (b : IsBack c (state now))
         (b' : IsBack (state now) (state then)) where
-      may_use : MayUse c k
-      may_use = subst (MayUse c) (sym is) (All-get_or (MayUse c) ks n k l uses)
-
-      module _ (u : ℕ) (rs : List Rule) (x : IsExact u c ks rs) where
-        there : n < length rs
-        there = let same = zip_length (IsFirstOrderRule c) ks rs x.rules in omega (arith, l, same)
-
-        is_rule : IsFirstOrderRule c k (rule_at rs n)
-        is_rule = subst (λ z. IsFirstOrderRule c z (rule_at rs n)) (sym is)
-            (zip_at (IsFirstOrderRule c) ks rs n k (given nil) x.rules l)
-
-        in_rules : Contains rs (rule_at rs n)
-        in_rules = Contains-get_or rs n (given nil) there
-
-        one_more : take (n + 1) rs ≡ take n rs ++ rule_at rs n ∷ []
-        one_more = take_more rs n (given nil) there
-
-      is_rule_of : (rs : List Rule) → AllZip (IsRuleOf c) ks rs → IsRuleOf c k (rule_at rs n)
-      is_rule_of rs x = subst (λ z. IsRuleOf c z (rule_at rs n)) (sym is) (zip_at (IsRuleOf c) ks rs n k (given nil) x l)
-
-      in_rules_of : (rs : List Rule) → AllZip (IsRuleOf c) ks rs → Contains rs (rule_at rs n)
-      in_rules_of rs x =
-          let same = zip_length (IsRuleOf c) ks rs x in Contains-get_or rs n (given nil) (omega (arith, l, same))
-
-      fails : (d : Context Key Id Name) (named : Option (Blame Key)) →
-          TellsRule (state now) d ks env k g (Refuted named) → (u : ℕ) (rs : List Rule) → IsExact u c ks rs → IsFirstOrderClause (goal_tree c g) →
-          Did u [] rs c.store (rule (rule_at rs n) (goal_tree c g)) no
-      fails d named t u rs x f = (rule_back c (state now) d b ks env known_env uses g asked k may_use (Refuted named) t).0
-          u rs (rule_at rs n) x (is_rule u rs x) (in_rules u rs x) f
+      all_fail_still : (d : Context Key Id Name) (named : Option (Blame Key)) →
+          TellsRule (state now) d ks env k g (Refuted named) → (u : ℕ) (rs : List Rule) → IsExact u c ks rs →
+          IsFirstOrderClause (goal_tree c g) → AllFail u [] rs c.store (goal_tree c g) (take n rs) →
+          AllFail u [] rs c.store (goal_tree c g) (take (n + 1) rs)
+      all_fail_still = fails_still c ks env g (state now) n k l is known_env uses asked b
 
       follows : (d : Context Key Id Name) → TellsRule (state now) d ks env k g Proven → (u : ℕ) (rs : List Rule) →
           IsExact u c ks rs → IsFirstOrderClause (goal_tree c g) → SaysYesBy c d ks env g u rs (rule_at rs n)
-      follows d t u rs x f = (rule_back c (state now) d b ks env known_env uses g asked k may_use Proven t).0 u rs
-          (rule_at rs n) x (is_rule u rs x) (in_rules u rs x) f
+      follows = says_yes_by c ks env g (state now) n k l is known_env uses asked b
 
       proved : (d : Context Key Id Name) → TellsRule (state now) d ks env k g Proven → (rs : List Rule) →
           AllZip (IsRuleOf c) ks rs → IsProvedBy c d ks env rs (rule_at rs n) g
-      proved d t rs x = (rule_back c (state now) d b ks env known_env uses g asked k may_use Proven t).1 rs
-          (rule_at rs n) x (is_rule_of rs x) (in_rules_of rs x)
+      proved = is_proved_by c ks env g (state now) n k l is known_env uses asked b
 
       abbrev kept_before : (r : R) → HasKept state with_record (state now) then r → HasKept state with_record c then r
       kept_before r h = record {
@@ -137,32 +105,10 @@ module _ {S R Key Id Name : Type 0} (state : S → Context Key Id Name) (with_re
         known = h.known;
       }
 
-      -- One rule more fails: what stood of the others stands.
-      others_stand : (by : Rule) (u : ℕ) (rs : List Rule) (x : IsExact u c ks rs) →
-          Did u [] rs c.store (rule (rule_at rs n) (goal_tree c g)) no →
-          HasOneValue c.store (goal_tree c g) ⊎ AllOthersFail u [] rs c.store by (goal_tree c g) (take n rs) →
-          HasOneValue c.store (goal_tree c g) ⊎ AllOthersFail u [] rs c.store by (goal_tree c g) (take (n + 1) rs)
-      others_stand by u rs x d (inl o) = inl o
-      others_stand by u rs x d (inr o) = inr (subst (AllOthersFail u [] rs c.store by (goal_tree c g))
-          (sym (one_more u rs x)) (one_other_fails u [] rs c.store (goal_tree c g) (take n rs) by (rule_at rs n) o d))
-
-      -- It follows by this one, which is enough.
-      first_is : HasOneValue c.store (goal_tree c g) → (r : R) →
-          TellsTried state with_record (state now) then ks env k g (Follows r) → TellsSearch then (n + 1) (Found n r)
-      first_is o r t = (
-        kept_before r t.0,
-        λ u rs x f.
-            let p = follows (state (t.0).where_kept) t.1 u rs x f in
-            record { by = rule_at rs n; follows = p.follows; store = p.store; others = inl o },
-        l,
-        proved (state (t.0).where_kept) t.1,
-      )
-
-      after : (enough : Bool) → (enough ≡ true → HasOneValue c.store (goal_tree c g)) → (search : Search R Key)
-          (tried : Tried R Key) → TellsSearch now n search →
+      after : (search : Search R Key) (tried : Tried R Key) → TellsSearch now n search →
           TellsTried state with_record (state now) then ks env k g tried →
-          TellsSearch then (n + 1) (search_after enough n search tried)
-      after enough o (Nothing named) (Follows r) s t = (
+          TellsSearch then (n + 1) (search_after n search tried)
+      after (Nothing named) (Follows r) s t = (
         kept_before r t.0,
         λ u rs x f.
             let p = follows (state (t.0).where_kept) t.1 u rs x f in
@@ -170,31 +116,19 @@ module _ {S R Key Id Name : Type 0} (state : S → Context Key Id Name) (with_re
               by = rule_at rs n;
               follows = p.follows;
               store = p.store;
-              others = inr (subst (AllOthersFail u [] rs c.store (rule_at rs n) (goal_tree c g)) (sym (one_more u rs x))
-                  (first_found u [] rs c.store (goal_tree c g) (take n rs) (rule_at rs n) (s.1 u rs x f)));
+              others = others_fail_first c ks env g (state now) n k l is known_env uses asked b u rs x (s.1 u rs x f);
             },
         l,
         proved (state (t.0).where_kept) t.1,
       )
-      after enough o (Nothing named) (Fails again) s t = (
+      after (Nothing named) (Fails again) s t = (
         first_known (KnowsBlame (state then) ks) named again (blame_on (state now) (state then) b'.grown ks named s.0)
             t.1,
-        λ u rs x f.
-            subst (AllFail u [] rs c.store (goal_tree c g)) (sym (one_more u rs x))
-            (one_more_fails u [] rs c.store (goal_tree c g) (take n rs) (rule_at rs n) (s.1 u rs x f)
-            (fails (state then) again t u rs x f)),
+        λ u rs x f. all_fail_still (state then) again t u rs x f (s.1 u rs x f),
       )
-      after enough o (Nothing named) (Unclear why) s t = tt
-      after true o (Found i r) tried s t = (
-        kept_on c now then r b'.grown s.0,
-        λ u rs x f.
-            let p = s.1 u rs x f in
-            record { by = p.by; follows = p.follows; store = p.store; others = inl (o refl) },
-        s.2,
-        s.3,
-      )
-      after false o (Found i r) (Follows q) s t = tt
-      after false o (Found i r) (Fails again) s t = (
+      after (Nothing named) (Unclear why) s t = tt
+      after (Found i r) (Follows q) s t = tt
+      after (Found i r) (Fails again) s t = (
         kept_on c now then r b'.grown s.0,
         λ u rs x f.
             let p = s.1 u rs x f in
@@ -202,45 +136,34 @@ module _ {S R Key Id Name : Type 0} (state : S → Context Key Id Name) (with_re
               by = p.by;
               follows = p.follows;
               store = p.store;
-              others = others_stand p.by u rs x (fails (state then) again t u rs x f) p.others;
+              others = others_fail_still c ks env g (state now) n k l is known_env uses asked b (state then) again t p.by
+                  u rs x f p.others;
             },
         s.2,
         s.3,
       )
-      after false o (Found i r) (Unclear why) s t = tt
-      after enough o (Open why) (Fails again) s t = tt
-      after enough o (Open why) (Unclear again) s t = tt
-      after true o (Open why) (Follows q) s t = first_is (o refl) q t
-      after false o (Open why) (Follows q) s t = tt
+      after (Found i r) (Unclear why) s t = tt
+      after (Open why) (Follows q) s t = tt
+      after (Open why) (Fails again) s t = tt
+      after (Open why) (Unclear again) s t = tt
 
-      pub search_goes_on : (enough : Bool) → (enough ≡ true → HasOneValue c.store (goal_tree c g)) →
-          (search : Search R Key) (tried : Tried R Key) → TellsSearch now n search →
+      pub search_goes_on : (search : Search R Key) (tried : Tried R Key) → TellsSearch now n search →
           TellsTried state with_record (state now) then ks env k g tried →
-          Searches then (n + 1) (search_after enough n search tried)
-      search_goes_on enough o search tried s t = record {
+          Searches then (n + 1) (search_after n search tried)
+      search_goes_on search tried s t = record {
         back = back_through c (state now) (state then) b b';
-        tells = after enough o search tried s t;
+        tells = after search tried s t;
       }
 
     -- No other rule counts: it is as if all were tried.
-    pub search_ends : (now : S) (n : ℕ) (enough : Bool) → (enough ≡ true → HasOneValue c.store (goal_tree c g)) →
-        (search : Search R Key) → ends enough search ≡ true → Searches now n search → Searches now (length ks) search
-    search_ends now n enough o (Found i r) e s = record {
-      back = s.back;
-      tells = (
-        (s.tells).0,
-        λ u rs x f.
-            let p = (s.tells).1 u rs x f in
-            record { by = p.by; follows = p.follows; store = p.store; others = inl (o e) },
-        (s.tells).2,
-        (s.tells).3,
-      );
-    }
-    search_ends now n enough o (Nothing named) e s = absurd (true≢false (sym e))
-    search_ends now n enough o (Open why) e s = record { back = s.back; tells = tt }
+    pub search_ends : (now : S) (n : ℕ) (search : Search R Key) → ends search ≡ true → Searches now n search →
+        Searches now (length ks) search
+    search_ends now n (Found i r) e s = absurd (true≢false (sym e))
+    search_ends now n (Nothing named) e s = absurd (true≢false (sym e))
+    search_ends now n (Open why) e s = record { back = s.back; tells = tt }
 
     -- All rules were tried.
-    module _ (stands : (r : R) → StandsOn state with_record r) (sound : (x : S) → (state x).lawful → IsSound (state x).store)
+    module _ (stands : (r : R) → StandsOn state with_record r)
         (now : S) (n : ℕ) (all : length ks ≤ n) where
       whole : (u : ℕ) (rs : List Rule) → IsExact u c ks rs → take n rs ≡ rs
       whole u rs x =
@@ -267,18 +190,11 @@ module _ {S R Key Id Name : Type 0} (state : S → Context Key Id Name) (with_re
       }
       settled_goes (Open why) b s = back_goes c (state now) b
 
-      -- The one by which it follows is taken alone, or first.
-      takes_one : (there : S) (u : ℕ) (rs : List Rule) → (state there).lawful → IsExact u c ks rs → Only there n u rs →
+      -- The one by which it follows is taken alone.
+      takes_one : (there : S) (u : ℕ) (rs : List Rule) → IsExact u c ks rs → Only there n u rs →
           Did u [] rs c.store (goal (goal_tree c g)) (yes (state there).store)
-      takes_one there u rs l x p = go p.others
-        where
-          go : HasOneValue c.store (goal_tree c g) ⊎ AllOthersFail u [] rs c.store p.by (goal_tree c g) (take n rs) →
-              Did u [] rs c.store (goal (goal_tree c g)) (yes (state there).store)
-          go (inl o) = let f = p.follows in
-              took_first c.store f.middle (state there).store p.by f.vars (goal_tree c g) f.there f.takes f.asks
-              (sound there l) o
-          go (inr o) = takes_alone u [] rs c.store (state there).store p.by (goal_tree c g) p.follows
-              (subst (AllOthersFail u [] rs c.store p.by (goal_tree c g)) (whole u rs x) o)
+      takes_one there u rs x p = takes_alone u [] rs c.store (state there).store p.by (goal_tree c g) p.follows
+          (subst (AllOthersFail u [] rs c.store p.by (goal_tree c g)) (whole u rs x) p.others)
 
       settled_tells : (search : Search R Key) → IsBack c (state now) → TellsSearch now n search →
           TellsGoal c (state (settled with_record now search)) ks env g (told_by search)
@@ -295,7 +211,7 @@ module _ {S R Key Id Name : Type 0} (state : S → Context Key Id Name) (with_re
                 let o = s.1 u rs x f in
                 record {
                   did = subst (λ z. Did u [] rs c.store (goal (goal_tree c g)) (yes z)) (sym same)
-                      (takes_one (s.0).where_kept u rs ((s.0).goes_on).lawful x o);
+                      (takes_one (s.0).where_kept u rs x o);
                   store = subst (IsFirstOrderAt u) (sym same) o.store;
                 },
             λ rs x. subst (λ z. ProvesBy (items_of c.meaning) ((c.meaning).param_env env) z.universe [] rs [] c.store z

@@ -9,4 +9,5 @@ pub mod Searching
 pub mod Answers
 pub mod Checking
 pub mod Spent
+pub mod Remembering
 pub mod Ordering

@@ -4,13 +4,16 @@
 --   HasKept state with_record c now r   what was kept where a goal followed, which may be put back
 --   TellsRound c d ks e gs round          what is told of the goals of a list, asked one after another
 --   KeepsTold state with_record now     what was kept of an answer
+--   IsBackUnless c d verdict            what is recorded is what was, unless a goal follows
 --   TellsTried ..                       what is told of a rule that was tried, once the record is put back
 --   first_of a b                        of two goals that are named the first
---   search_after enough n search tried  what is known of the rules with one more, which is at place n
---   ends enough search                  whether no other rule counts
+--   proves verdict                      whether a goal follows by a rule
+--   told_without told verdict           what is told of a goal that doesn't follow by one rule more
+--   search_after n search tried         what is known of the rules with one more, which is at place n
+--   ends search                         whether no other rule counts
 --   told_by search                      what that tells of the goal
 --   settled with_record now search      the context once that is told
-use Rattle.std.specs.Prelude.{◌≡◌, ℕ, ◌<◌, Bool, true, false, not, List, length, get_or, Option, Some, None}
+use Rattle.std.specs.Prelude.{◌≡◌, ℕ, ◌<◌, Bool, true, false, List, length, get_or, Option, Some, None}
 use Rattle.relation_terms.specs.declared.terms.binder.Binder.{Binder}
 use Rattle.relation_terms.specs.declared.terms.keys.ClauseKey.{ClauseKey}
 use Rattle.relation_terms.specs.declared.terms.keys.ClausesKey.{ClausesKey}
@@ -18,7 +21,7 @@ use Rattle.relation_terms.specs.declared.terms.keys.ParamEnvKey.{ParamEnvKey}
 use Rattle.relation_terms.specs.Meaning.{Extends}
 use Rattle.relation_semantics.specs.Contexts.{Context}
 use Rattle.kept_records.specs.Records.{IsRecordOf}
-use Rattle.relation_proving.specs.Telling.{GoesOn, KnowsBlame, TellsYes, TellsNo, TellsRule}
+use Rattle.relation_proving.specs.Telling.{GoesOn, IsBack, KnowsBlame, TellsYes, TellsNo, TellsRule}
 use Rattle.relation_proving.specs.declared.told.Why.{Why}
 use Rattle.relation_proving.specs.declared.told.Why.TheVariants.{Ambiguous, Depth}
 use Rattle.relation_proving.specs.declared.told.Blame.{Blame}
@@ -43,27 +46,37 @@ abbrev pub first_of : {Key : Type 0} → Option (Blame Key) → Option (Blame Ke
 first_of (Some b) c = Some b
 first_of None c = c
 
--- What is known of rules, with one more that was tried; of a goal of which one answer is enough the first by which it
--- follows counts.
-abbrev pub search_after : {R Key : Type 0} → Bool → ℕ → Search R Key → Tried R Key → Search R Key
-search_after enough n (Nothing b) (Follows r) = Found n r
-search_after enough n (Nothing b) (Fails c) = Nothing (first_of b c)
-search_after enough n (Nothing b) (Unclear why) = Open why
-search_after true n (Found i r) tried = Found i r
-search_after false n (Found i r) (Follows q) = Open Ambiguous
-search_after false n (Found i r) (Fails c) = Found i r
-search_after false n (Found i r) (Unclear why) = Open why
-search_after enough n (Open why) (Fails c) = Open why
-search_after enough n (Open why) (Unclear again) = Open (worse_of why again)
-search_after true n (Open why) (Follows r) = Found n r
-search_after false n (Open why) (Follows r) = Open why
+-- Whether a goal follows by a rule.
+abbrev pub proves : {Key : Type 0} → Verdict Key → Bool
+proves Proven = true
+proves told = false
 
--- No other rule counts: it follows by one, and that is enough; or it isn't, and the depth is spent.
-abbrev pub ends : {R Key : Type 0} → Bool → Search R Key → Bool
-ends enough (Nothing b) = false
-ends enough (Found i r) = enough
-ends enough (Open Depth) = not enough
-ends enough (Open Ambiguous) = false
+-- What is told of a goal that doesn't follow by one rule more, or of which that isn't told.
+abbrev pub told_without : {Key : Type 0} → Told Key → Verdict Key → Told Key
+told_without told Proven = told
+told_without (No b) (Refuted c) = No (first_of b c)
+told_without (Yes i) (Refuted c) = Yes i
+told_without (Maybe why) (Refuted c) = Maybe why
+told_without (No b) (Untold again) = Maybe again
+told_without (Yes i) (Untold again) = Maybe again
+told_without (Maybe why) (Untold again) = Maybe (worse_of why again)
+
+-- What is known of rules, with one more that was tried.
+abbrev pub search_after : {R Key : Type 0} → ℕ → Search R Key → Tried R Key → Search R Key
+search_after n (Nothing b) (Follows r) = Found n r
+search_after n (Nothing b) (Fails c) = Nothing (first_of b c)
+search_after n (Nothing b) (Unclear why) = Open why
+search_after n (Found i r) (Follows q) = Open Ambiguous
+search_after n (Found i r) (Fails c) = Found i r
+search_after n (Found i r) (Unclear why) = Open why
+search_after n (Open why) (Follows r) = Open why
+search_after n (Open why) (Fails c) = Open why
+search_after n (Open why) (Unclear again) = Open (worse_of why again)
+
+-- No other rule counts: the depth is spent.
+abbrev pub ends : {R Key : Type 0} → Search R Key → Bool
+ends (Open Depth) = true
+ends search = false
 
 -- What that tells of the goal, and the context then.
 abbrev pub told_by : {R Key : Type 0} → Search R Key → Told Key
@@ -75,6 +88,11 @@ abbrev pub settled : {S R Key : Type 0} → (S → R → S) → S → Search R K
 settled with_record now (Nothing b) = now
 settled with_record now (Found i r) = with_record now r
 settled with_record now (Open why) = now
+
+-- What is recorded is what was, unless a goal follows by a rule.
+abbrev pub IsBackUnless : {Key Id Name : Type 0} → Context Key Id Name → Context Key Id Name → Verdict Key → Type 0
+IsBackUnless c d Proven = Unit {0}
+IsBackUnless c d told = IsBack c d
 
 -- What is told of the goals of a list that are asked one after another: one of them was proved or failed, or it isn't
 -- told of any.

@@ -2,6 +2,7 @@
 //! and what it asks for is proved in turn.
 #![tactic(auto)]
 
+mod asked;
 mod barring;
 mod blaming;
 pub mod candidate;
@@ -10,6 +11,7 @@ mod comparing;
 pub mod fitting;
 pub mod opening;
 mod ordering;
+mod proved;
 pub mod proving;
 pub mod reading;
 mod searching;

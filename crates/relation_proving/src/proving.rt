@@ -1,15 +1,17 @@
 //! Whether a goal follows from rules, within a depth.
-ghost use Rattle.std.specs.Prelude.{◌<◌, All, length, IfOk, IsTrue};
+ghost use Rattle.std.specs.Prelude.{◌≡◌, ◌<◌, All, length, IfOk};
 ghost use Rattle.relation_terms.specs.Meaning.{Extends};
 ghost use Rattle.relation_semantics.specs.Steps.{IsLater};
 ghost use Rattle.relation_solver.specs.Traces.{HasOneValue};
 ghost use Rattle.relation_proving.specs.Candidates.{MayAsk};
 ghost use Rattle.relation_proving.specs.RuleTerms.{MayUse};
 ghost use Rattle.relation_proving.specs.Telling.{MayProve, GoesOn, IsBack, TellsGoal, TellsAll, TellsRule};
-ghost use Rattle.relation_proving.specs.Searching.{TellsRound, TellsTried};
+ghost use Rattle.relation_proving.specs.Searching.{IsBackUnless, TellsRound, TellsTried};
+ghost use Rattle.relation_proving.specs.Remembering.{RemembersAll, RemembersMore};
 ghost use Rattle.relation_proving.specs.Answers.{YesDerives, YesIsBy, YesMakesFollow, YesLosesNone};
 ghost use Rattle.relation_proving.specs.Answers.{NoFollowsNever, NoNamesKnown, YesStaysFirstOrder, LeavesNothing};
 
+use crate::asked::AskedGoals;
 use crate::barring::is_passed_over;
 use crate::blaming::blame_of;
 use crate::candidate::{Candidate, try_rule};
@@ -17,10 +19,9 @@ use crate::opening::RuleOf;
 use crate::ordering::is_of_variable;
 use crate::reading::comes_to_one;
 use crate::searching::{
-    Round, RoundOf, Search, Tried, TriedOf, Verdict, VerdictOf, is_over, keep_told, settle,
-    with_tried, worse,
+    Round, RoundOf, Search, Tried, TriedOf, Verdict, VerdictOf, is_over, is_proven, keep_told,
+    settle, with_tried, without_rule, worse,
 };
-use crate::spent::SpentGoals;
 pub use crate::told::{Blame, BlameOf, Told, ToldOf, Why};
 use kept_records::KeepsRecord;
 use relation_folds::error::RelateResult;
@@ -76,11 +77,11 @@ pub fn prove<C: KeepsRecord>(
 {
     laws::derivations();
     laws::goals();
-    let mut spent = SpentGoals::new(ctx.cx().alloc());
-    follows(ctx, rules, param_env, goal, depth, span, &mut spent)
+    let mut asked = AskedGoals::new(ctx.cx().alloc());
+    follows(ctx, rules, param_env, goal, depth, span, &mut asked)
 }
 
-// Whether a goal follows. One whose depth was spent with as many levels left spends it again.
+// Whether a goal follows. Of one in which no variable but of regions is left the first rule by which it does is enough.
 #[cycle(proving)]
 fn follows<C: KeepsRecord>(
     ctx: &mut C,
@@ -89,54 +90,158 @@ fn follows<C: KeepsRecord>(
     goal: &Clause<C::Interner>,
     depth: usize,
     span: Span<C::Interner>,
-    spent: &mut SpentGoals<Clause<C::Interner>>,
+    asked: &mut AskedGoals<Clause<C::Interner>>,
 ) -> RelateResult<C::Interner, ToldOf<C::Interner>>
     requires may { MayProve (C.state ctx.old) rules.now param_env }
     requires goal { MayAsk (C.state ctx.old) goal.now }
+    requires remembers { RemembersAll (C.state ctx.old) rules.now param_env asked.old.proved }
     ensures goes_on { GoesOn (C.state ctx.old) (C.state ctx.new) }
     ensures tells { IfOk result (TellsGoal (C.state ctx.old) (C.state ctx.new) rules.now param_env goal.now) }
+    ensures remembers { let d = C.state ctx.new in
+        IfOk result (λ r. RemembersMore d rules.now param_env asked.old.proved asked.new.proved) }
 {
     if depth == 0 {
         return Ok(Told::Maybe(Why::Depth));
     }
-    let one = comes_to_one(ctx, goal)?;
-    if spent.spends(&one, depth) {
-        return Ok(Told::Maybe(Why::Depth));
+    match comes_to_one(ctx, goal)? {
+        Some(one) => follows_once(ctx, rules, param_env, &one, depth, span, asked),
+        None => follows_alone(ctx, rules, param_env, goal, depth - 1, span, asked),
     }
-    let enough = one.is_some();
-    let told = follows_by_some(ctx, rules, param_env, goal, enough, depth - 1, span, spent)?;
-    spent.insert(one, &told, depth)?;
-    Ok(told)
 }
 
-// Whether a goal follows by some rule. Of one of which all solutions make one thing the first by which it follows is
-// enough.
+// Whether a goal follows of which all solutions make one thing. It isn't proved again where it was in what is recorded,
+// nor where its depth was spent with as many levels left.
 #[cycle(proving)]
-fn follows_by_some<C: KeepsRecord>(
+fn follows_once<C: KeepsRecord>(
     ctx: &mut C,
     rules: &[RuleOf<C::Interner>],
     param_env: ParamEnv<C::Interner>,
     goal: &Clause<C::Interner>,
-    enough: bool,
     depth: usize,
     span: Span<C::Interner>,
-    spent: &mut SpentGoals<Clause<C::Interner>>,
+    asked: &mut AskedGoals<Clause<C::Interner>>,
 ) -> RelateResult<C::Interner, ToldOf<C::Interner>>
     requires may { MayProve (C.state ctx.old) rules.now param_env }
     requires goal { MayAsk (C.state ctx.old) goal.now }
-    requires one { let c = C.state ctx.old in IsTrue enough → HasOneValue c.store ((c.meaning).clause goal.now) }
+    requires one { let c = C.state ctx.old in HasOneValue c.store ((c.meaning).clause goal.now) }
+    requires depth { 0 < depth }
+    requires remembers { RemembersAll (C.state ctx.old) rules.now param_env asked.old.proved }
     ensures goes_on { GoesOn (C.state ctx.old) (C.state ctx.new) }
     ensures tells { IfOk result (TellsGoal (C.state ctx.old) (C.state ctx.new) rules.now param_env goal.now) }
+    ensures remembers { let d = C.state ctx.new in
+        IfOk result (λ r. RemembersMore d rules.now param_env asked.old.proved asked.new.proved) }
+{
+    if let Some(by) = asked.proved.find(goal) {
+        return Ok(Told::Yes(by));
+    }
+    if asked.spent.spends(goal, depth) {
+        return Ok(Told::Maybe(Why::Depth));
+    }
+    let told = follows_first(ctx, rules, param_env, goal, depth - 1, span, asked)?;
+    asked.insert(*goal, &told, depth)?;
+    Ok(told)
+}
+
+// Whether a goal follows by some rule, of which all solutions make one thing: the first one counts. What is recorded
+// then is left.
+#[cycle(proving)]
+fn follows_first<C: KeepsRecord>(
+    ctx: &mut C,
+    rules: &[RuleOf<C::Interner>],
+    param_env: ParamEnv<C::Interner>,
+    goal: &Clause<C::Interner>,
+    depth: usize,
+    span: Span<C::Interner>,
+    asked: &mut AskedGoals<Clause<C::Interner>>,
+) -> RelateResult<C::Interner, ToldOf<C::Interner>>
+    requires may { MayProve (C.state ctx.old) rules.now param_env }
+    requires goal { MayAsk (C.state ctx.old) goal.now }
+    requires one { let c = C.state ctx.old in HasOneValue c.store ((c.meaning).clause goal.now) }
+    requires remembers { RemembersAll (C.state ctx.old) rules.now param_env asked.old.proved }
+    ensures goes_on { GoesOn (C.state ctx.old) (C.state ctx.new) }
+    ensures tells { IfOk result (TellsGoal (C.state ctx.old) (C.state ctx.new) rules.now param_env goal.now) }
+    ensures remembers { let d = C.state ctx.new in
+        IfOk result (λ r. RemembersMore d rules.now param_env asked.old.proved asked.new.proved) }
+{
+    let mut told = Told::No(None);
+    for (place, rule) in rules.iter().enumerate() {
+        let verdict = try_first(
+            ctx, rules, param_env, *rule, place, goal, depth, span, asked,
+        )?;
+        if is_proven(&verdict) {
+            return Ok(Told::Yes(place));
+        }
+        told = without_rule(told, verdict);
+    }
+    Ok(told)
+}
+
+// Tries a rule, and puts the record back where a goal doesn't follow by it.
+#[cycle(proving)]
+fn try_first<C: KeepsRecord>(
+    ctx: &mut C,
+    rules: &[RuleOf<C::Interner>],
+    param_env: ParamEnv<C::Interner>,
+    rule: RuleOf<C::Interner>,
+    place: usize,
+    goal: &Clause<C::Interner>,
+    depth: usize,
+    span: Span<C::Interner>,
+    asked: &mut AskedGoals<Clause<C::Interner>>,
+) -> RelateResult<C::Interner, VerdictOf<C::Interner>>
+    requires may { MayProve (C.state ctx.old) rules.now param_env }
+    requires rule { MayUse (C.state ctx.old) rule }
+    requires place { place < length rules.now }
+    requires goal { MayAsk (C.state ctx.old) goal.now }
+    requires remembers { RemembersAll (C.state ctx.old) rules.now param_env asked.old.proved }
+    ensures goes_on { GoesOn (C.state ctx.old) (C.state ctx.new) }
+    ensures back { IfOk result (IsBackUnless (C.state ctx.old) (C.state ctx.new)) }
+    ensures tells { IfOk result (TellsRule (C.state ctx.old) (C.state ctx.new) rules.now param_env rule goal.now) }
+    ensures remembers { let d = C.state ctx.new in
+        IfOk result (λ r. RemembersMore d rules.now param_env asked.old.proved asked.new.proved) }
+{
+    if is_passed_over(&*ctx, &rule, goal) {
+        return Ok(Verdict::Refuted(None));
+    }
+    let kept = ctx.keep()?;
+    let count = asked.proved.len();
+    let verdict = follows_by(ctx, rules, param_env, rule, place, goal, depth, span, asked)?;
+    if is_proven(&verdict) {
+        return Ok(verdict);
+    }
+    ctx.put_back(kept);
+    asked.proved.truncate(count);
+    Ok(verdict)
+}
+
+// Whether a goal follows by one rule, and no other is left. What is recorded by that one is left then.
+#[cycle(proving)]
+fn follows_alone<C: KeepsRecord>(
+    ctx: &mut C,
+    rules: &[RuleOf<C::Interner>],
+    param_env: ParamEnv<C::Interner>,
+    goal: &Clause<C::Interner>,
+    depth: usize,
+    span: Span<C::Interner>,
+    asked: &mut AskedGoals<Clause<C::Interner>>,
+) -> RelateResult<C::Interner, ToldOf<C::Interner>>
+    requires may { MayProve (C.state ctx.old) rules.now param_env }
+    requires goal { MayAsk (C.state ctx.old) goal.now }
+    requires remembers { RemembersAll (C.state ctx.old) rules.now param_env asked.old.proved }
+    ensures goes_on { GoesOn (C.state ctx.old) (C.state ctx.new) }
+    ensures tells { IfOk result (TellsGoal (C.state ctx.old) (C.state ctx.new) rules.now param_env goal.now) }
+    ensures remembers { let d = C.state ctx.new in
+        IfOk result (λ r. RemembersMore d rules.now param_env asked.old.proved asked.new.proved) }
 {
     let mut search = Search::Nothing(None);
     for (place, rule) in rules.iter().enumerate() {
-        if is_over(&search, enough) {
+        if is_over(&search) {
             return Ok(settle(ctx, search));
         }
         let tried = try_and_put_back(
-            ctx, rules, param_env, *rule, place, goal, depth, span, spent,
+            ctx, rules, param_env, *rule, place, goal, depth, span, asked,
         )?;
-        search = with_tried(search, place, tried, enough);
+        search = with_tried(search, place, tried);
     }
     Ok(settle(ctx, search))
 }
@@ -152,24 +257,28 @@ fn try_and_put_back<C: KeepsRecord>(
     goal: &Clause<C::Interner>,
     depth: usize,
     span: Span<C::Interner>,
-    spent: &mut SpentGoals<Clause<C::Interner>>,
+    asked: &mut AskedGoals<Clause<C::Interner>>,
 ) -> RelateResult<C::Interner, TriedOf<C::Record, C::Interner>>
     requires may { MayProve (C.state ctx.old) rules.now param_env }
     requires rule { MayUse (C.state ctx.old) rule }
     requires place { place < length rules.now }
     requires goal { MayAsk (C.state ctx.old) goal.now }
+    requires remembers { RemembersAll (C.state ctx.old) rules.now param_env asked.old.proved }
     ensures goes_on { GoesOn (C.state ctx.old) (C.state ctx.new) }
     ensures back { IfOk result (λ r. IsBack (C.state ctx.old) (C.state ctx.new)) }
     ensures tells { let c = C.state ctx.old in
         IfOk result (TellsTried C.state C.with_record c ctx.new rules.now param_env rule goal.now) }
+    ensures remembers { IfOk result (λ r. asked.new.proved ≡ asked.old.proved) }
 {
     if is_passed_over(&*ctx, &rule, goal) {
         return Ok(Tried::Fails(None));
     }
     let before = ctx.keep()?;
-    let told = follows_by(ctx, rules, param_env, rule, place, goal, depth, span, spent)?;
+    let proved = asked.proved.len();
+    let told = follows_by(ctx, rules, param_env, rule, place, goal, depth, span, asked)?;
     let tried = keep_told(&*ctx, told)?;
     ctx.put_back(before);
+    asked.proved.truncate(proved);
     Ok(tried)
 }
 
@@ -184,17 +293,20 @@ fn follows_by<C: KeepsRecord>(
     goal: &Clause<C::Interner>,
     depth: usize,
     span: Span<C::Interner>,
-    spent: &mut SpentGoals<Clause<C::Interner>>,
+    asked: &mut AskedGoals<Clause<C::Interner>>,
 ) -> RelateResult<C::Interner, VerdictOf<C::Interner>>
     requires may { MayProve (C.state ctx.old) rules.now param_env }
     requires rule { MayUse (C.state ctx.old) rule }
     requires place { place < length rules.now }
     requires goal { MayAsk (C.state ctx.old) goal.now }
+    requires remembers { RemembersAll (C.state ctx.old) rules.now param_env asked.old.proved }
     ensures goes_on { GoesOn (C.state ctx.old) (C.state ctx.new) }
     ensures tells { IfOk result (TellsRule (C.state ctx.old) (C.state ctx.new) rules.now param_env rule goal.now) }
+    ensures remembers { let d = C.state ctx.new in
+        IfOk result (λ r. RemembersMore d rules.now param_env asked.old.proved asked.new.proved) }
 {
     match try_rule(ctx, param_env, rule, goal, span)? {
-        Candidate::Asks(asks) => all_follow(ctx, rules, param_env, asks, place, depth, span, spent),
+        Candidate::Asks(asks) => all_follow(ctx, rules, param_env, asks, place, depth, span, asked),
         Candidate::Apart => Ok(Verdict::Refuted(None)),
         Candidate::Unclear => Ok(Verdict::Untold(Why::Ambiguous)),
     }
@@ -210,17 +322,20 @@ fn all_follow<C: KeepsRecord>(
     place: usize,
     depth: usize,
     span: Span<C::Interner>,
-    spent: &mut SpentGoals<Clause<C::Interner>>,
+    asked: &mut AskedGoals<Clause<C::Interner>>,
 ) -> RelateResult<C::Interner, VerdictOf<C::Interner>>
     requires may { MayProve (C.state ctx.old) rules.now param_env }
     requires asks { All (MayAsk (C.state ctx.old)) asks.items }
     requires place { place < length rules.now }
+    requires remembers { RemembersAll (C.state ctx.old) rules.now param_env asked.old.proved }
     ensures goes_on { GoesOn (C.state ctx.old) (C.state ctx.new) }
     ensures tells { IfOk result (TellsAll (C.state ctx.old) (C.state ctx.new) rules.now param_env asks.items) }
+    ensures remembers { let d = C.state ctx.new in
+        IfOk result (λ r. RemembersMore d rules.now param_env asked.old.proved asked.new.proved) }
 {
     let mut left = asks;
     'rounds: while !left.is_empty() {
-        match one_follows(ctx, rules, param_env, &left, place, depth, span, spent)? {
+        match one_follows(ctx, rules, param_env, &left, place, depth, span, asked)? {
             Round::Proved(number) => {
                 left.remove(number);
             }
@@ -242,13 +357,16 @@ fn one_follows<C: KeepsRecord>(
     by: usize,
     depth: usize,
     span: Span<C::Interner>,
-    spent: &mut SpentGoals<Clause<C::Interner>>,
+    asked: &mut AskedGoals<Clause<C::Interner>>,
 ) -> RelateResult<C::Interner, RoundOf<C::Interner>>
     requires may { MayProve (C.state ctx.old) rules.now param_env }
     requires goals { All (MayAsk (C.state ctx.old)) goals.now }
     requires by { by < length rules.now }
+    requires remembers { RemembersAll (C.state ctx.old) rules.now param_env asked.old.proved }
     ensures goes_on { GoesOn (C.state ctx.old) (C.state ctx.new) }
     ensures tells { IfOk result (TellsRound (C.state ctx.old) (C.state ctx.new) rules.now param_env goals.now) }
+    ensures remembers { let d = C.state ctx.new in
+        IfOk result (λ r. RemembersMore d rules.now param_env asked.old.proved asked.new.proved) }
 {
     let mut why = Why::Ambiguous;
     for of_variable in [false, true] {
@@ -256,7 +374,7 @@ fn one_follows<C: KeepsRecord>(
             if is_of_variable(&*ctx, goal) != of_variable {
                 continue;
             }
-            match follows(ctx, rules, param_env, goal, depth, span, spent)? {
+            match follows(ctx, rules, param_env, goal, depth, span, asked)? {
                 Told::Yes(_) => return Ok(Round::Proved(place)),
                 Told::No(named) => {
                     let blame = blame_of(ctx, rules, named, goal, by)?;

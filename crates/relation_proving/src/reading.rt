@@ -5,7 +5,7 @@ ghost use Rattle.relation_proving.specs.Bodies.{FindsBody, FindsUnbound};
 ghost use Rattle.relation_proving.specs.Candidates.{MayAsk};
 ghost use Rattle.relation_proving.specs.RuleTerms.{rule_tree};
 ghost use Rattle.relation_proving.specs.Subjects.{args_of as arguments_of, AreOfTwo, GivesAnother};
-ghost use Rattle.relation_proving.specs.Telling.{IsBack, ComesToOne};
+ghost use Rattle.relation_proving.specs.Telling.{IsBack, IsReadAsOne};
 
 use crate::opening::RuleOf;
 use relation_folds::visit::has_non_region_infer;
@@ -53,7 +53,7 @@ pub(crate) fn comes_to_one<C: InferCtxtLike>(
     requires lawful { (C.state ctx.old).lawful }
     requires goal { MayAsk (C.state ctx.old) goal.now }
     ensures back { IsBack (C.state ctx.old) (C.state ctx.new) }
-    ensures one { IfOk result (ComesToOne (C.state ctx.old) (C.state ctx.new) goal.now) }
+    ensures one { IfOk result (λ found. IfSome found (IsReadAsOne (C.state ctx.old) (C.state ctx.new) goal.now)) }
 {
     if !has_non_region_infer(ctx.cx(), goal) {
         return Ok(Some(*goal));

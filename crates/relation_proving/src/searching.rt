@@ -1,6 +1,6 @@
 //! What is known of rules and of lists of goals while they are gone through.
 ghost use Rattle.std.specs.Prelude.{◌≡◌, IfOk};
-ghost use Rattle.relation_proving.specs.Searching.{worse_of, search_after, ends, told_by, settled};
+ghost use Rattle.relation_proving.specs.Searching.{worse_of, proves, told_without, search_after, ends, told_by, settled};
 ghost use Rattle.relation_proving.specs.Searching.{KeepsTold, MaySettle};
 
 use crate::blaming::first_named;
@@ -74,15 +74,37 @@ pub(crate) fn worse(first: Why, second: Why) -> Why
     }
 }
 
-/// What is known with one rule more, which is at this place. Where one answer is enough the first rule counts by which
-/// the goal follows.
+/// Whether it follows.
+pub(crate) fn is_proven<X>(verdict: &Verdict<X>) -> bool
+    ensures { result ≡ proves verdict.now }
+{
+    matches!(verdict, Verdict::Proven)
+}
+
+/// What is told of a goal that doesn't follow by one rule more, or of which that isn't told.
+pub(crate) fn without_rule<X: Copy>(told: Told<X>, verdict: Verdict<X>) -> Told<X>
+    ensures { result ≡ told_without told verdict }
+{
+    match verdict {
+        Verdict::Proven => told,
+        Verdict::Refuted(again) => match told {
+            Told::No(named) => Told::No(first_named(named, again)),
+            Told::Yes(_) | Told::Maybe(_) => told,
+        },
+        Verdict::Untold(again) => match told {
+            Told::Maybe(why) => Told::Maybe(worse(why, again)),
+            Told::Yes(_) | Told::No(_) => Told::Maybe(again),
+        },
+    }
+}
+
+/// What is known with one rule more, which is at this place.
 pub(crate) fn with_tried<R: Drop, X: Copy>(
     search: Search<R, X>,
     place: usize,
     tried: Tried<R, X>,
-    enough: bool,
 ) -> Search<R, X>
-    ensures { result ≡ search_after enough place search tried }
+    ensures { result ≡ search_after place search tried }
 {
     match search {
         Search::Nothing(named) => match tried {
@@ -90,39 +112,23 @@ pub(crate) fn with_tried<R: Drop, X: Copy>(
             Tried::Fails(again) => Search::Nothing(first_named(named, again)),
             Tried::Unclear(why) => Search::Open(why),
         },
-        Search::Found(by, record) => {
-            if enough {
-                return Search::Found(by, record);
-            }
-            match tried {
-                Tried::Follows(_) => Search::Open(Why::Ambiguous),
-                Tried::Fails(_) => Search::Found(by, record),
-                Tried::Unclear(why) => Search::Open(why),
-            }
-        }
+        Search::Found(by, record) => match tried {
+            Tried::Follows(_) => Search::Open(Why::Ambiguous),
+            Tried::Fails(_) => Search::Found(by, record),
+            Tried::Unclear(why) => Search::Open(why),
+        },
         Search::Open(why) => match tried {
-            Tried::Follows(record) => {
-                if enough {
-                    return Search::Found(place, record);
-                }
-                Search::Open(why)
-            }
-            Tried::Fails(_) => Search::Open(why),
+            Tried::Follows(_) | Tried::Fails(_) => Search::Open(why),
             Tried::Unclear(again) => Search::Open(worse(why, again)),
         },
     }
 }
 
-/// Whether no other rule counts: the goal follows by one, and that is enough; or it isn't, and the depth is spent.
-pub(crate) fn is_over<R, X: Copy>(search: &Search<R, X>, enough: bool) -> bool
-    ensures { result ≡ ends enough search.now }
+/// Whether no other rule counts: a rule has spent the depth.
+pub(crate) fn is_over<R, X: Copy>(search: &Search<R, X>) -> bool
+    ensures { result ≡ ends search.now }
 {
-    match search {
-        Search::Nothing(_) => false,
-        Search::Found(..) => enough,
-        Search::Open(Why::Depth) => !enough,
-        Search::Open(Why::Ambiguous) => false,
-    }
+    matches!(search, Search::Open(Why::Depth))
 }
 
 /// Keeps what is recorded where a goal follows.

@@ -2,14 +2,13 @@
 ghost use Rattle.std.specs.Prelude.{◌≡◌, [], IsTrue};
 ghost use Rattle.relation_proving.specs.Spent.{IsSpent, KeepsSpent};
 
-use crate::told::{Told, Why};
 use delayed_map::DelayedMap;
 use std::alloc::Global;
 use std::hash::Hash;
 use term_enums::OutOfMemory;
 
-/// Goals in which no variable but of regions stands, each with how many levels were left when its depth was spent: with
-/// no more it is spent again. It begins to keep them after the first 32.
+/// Goals of which the depth was spent, each with how many levels were left then: with no more it is spent again. It
+/// begins to keep them after the first 32.
 #[derive(Drop)]
 pub(crate) struct SpentGoals<T: Eq + Hash> {
     levels: DelayedMap<T, usize>,
@@ -25,35 +24,24 @@ impl<T: Eq + Hash + Copy> SpentGoals<T> {
         }
     }
 
-    /// Whether a goal was spent with as many levels left, or more. Of none that isn't so.
-    pub(crate) fn spends(&self, goal: &Option<T>, levels: usize) -> bool
+    /// Whether a goal was spent with as many levels left, or more.
+    pub(crate) fn spends(&self, goal: &T, levels: usize) -> bool
         ensures { IsTrue result → IsSpent T.eq goal.now levels self.now.levels.kept }
     {
-        let Some(goal) = goal else {
-            return false;
-        };
         match self.levels.get(goal) {
             Some(most) => levels <= *most,
             None => false,
         }
     }
 
-    /// Keeps that a goal was spent with so many levels left, in place of what was kept of it, if that was told of it. Of
-    /// none it keeps nothing.
+    /// Keeps that a goal was spent with so many levels left, in place of what was kept of it.
     ///
     /// # Errors
     /// `OutOfMemory` where a growth was refused: then all is as it was.
-    pub(crate) fn insert<X>(
-        &mut self,
-        goal: Option<T>,
-        told: &Told<X>,
-        levels: usize,
-    ) -> Result<(), OutOfMemory>
+    pub(crate) fn insert(&mut self, goal: T, levels: usize) -> Result<(), OutOfMemory>
         ensures { KeepsSpent T.eq goal levels self.old.levels.kept self.new.levels.kept }
     {
-        if let (Some(goal), Told::Maybe(Why::Depth)) = (goal, told) {
-            self.levels.insert(goal, levels)?;
-        }
+        self.levels.insert(goal, levels)?;
         Ok(())
     }
 }
