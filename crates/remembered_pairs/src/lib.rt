@@ -8,23 +8,13 @@ mod kept;
 
 use kept::KeptValues;
 use std::alloc::Global;
-use std::hash::{Hash, Hasher};
-use term_enums::hashing::KeyHasher;
+use std::hash::Hash;
 use term_enums::{OutOfMemory, Variance};
 
 /// Pairs that were related, each with the variance at which it was: all but the first 32.
 #[derive(Drop)]
 pub struct RememberedPairs<T: Eq + Hash> {
     pairs: KeptValues<(Variance, T, T)>,
-}
-
-// Where looking for a pair begins, at whatever variance: few are met at two.
-#[inline(always)]
-fn first_place<T: Hash>(a: &T, b: &T) -> u32 {
-    let mut hasher = KeyHasher::default();
-    a.hash(&mut hasher);
-    b.hash(&mut hasher);
-    (hasher.finish() & 0xFFFF_FFFF) as u32
 }
 
 impl<T: Eq + Hash + Copy> RememberedPairs<T> {
@@ -42,8 +32,7 @@ impl<T: Eq + Hash + Copy> RememberedPairs<T> {
     pub fn contains(&self, variance: Variance, a: &T, b: &T) -> bool
         ensures { IsTrue result → IsRemembered T.eq variance a.now b.now self.now.pairs.kept }
     {
-        let first = first_place(a, b);
-        self.pairs.contains(&(variance, *a, *b), first)
+        self.pairs.contains(&(variance, *a, *b))
     }
 
     /// Remembers two at the variance, but lets the first 32 go.
@@ -55,8 +44,7 @@ impl<T: Eq + Hash + Copy> RememberedPairs<T> {
             (p ≡ (variance, a.now, b.now)) ⊎ Contains self.old.pairs.kept p }
         ensures refused { OnErr result (self.new.pairs.kept ≡ self.old.pairs.kept) }
     {
-        let first = first_place(a, b);
-        self.pairs.insert((variance, *a, *b), first)?;
+        self.pairs.insert((variance, *a, *b))?;
         Ok(())
     }
 }
