@@ -1,6 +1,6 @@
 -- Where the entries of a table stand.
 use Rattle.std.proofs.Common.{ℕ, ◌+◌, ◌<◌, ◌≡◌, IsTrue, List, [], ◌∷◌, ◌++◌, length, get_or, inl, inr, refl, sym, ◌∙◌}
-use Rattle.std.proofs.Common.{subst, intern-zero, zero-intern, true}
+use Rattle.std.proofs.Common.{subst, add-zero, zero-add, true}
 use Rattle.std.proofs.lemmas.Bool.{false≢true, cases_lt}
 use Rattle.std.proofs.lemmas.List.{get_or_past}
 use Rattle.relation_terms.specs.Trees.{Tree, bind, nil, known}
@@ -18,13 +18,13 @@ use Rattle.reference_interner.specs.Nodes.{entries_from, entries, known_entry}
 use Rattle.reference_interner.specs.Items.{Items, no_items}
 
 pub length_entries : (es : List Entry) (ns : List Node) → length (entries_from es ns) ≡ length es + length ns
-length_entries es [] = sym (intern-zero (length es))
+length_entries es [] = sym (add-zero (length es))
 length_entries es (n ∷ ns) =
     let e = entry_of (meaning_of no_items es) n in
     length_after es e (length ns) (length (entries_from (es ++ e ∷ []) ns)) (length_entries (es ++ e ∷ []) ns)
 
 pub entries_there : (ns : List Node) → length (entries ns) ≡ length ns
-entries_there ns = length_entries [] ns ∙ zero-intern (length ns)
+entries_there ns = length_entries [] ns ∙ zero-add (length ns)
 
 -- What is known stands in the table.
 pub known_in : (ns : List Node) (i : ℕ) → IsTrue (known_entry (get_or (entries ns) i no_entry)) → i < length ns
