@@ -3,7 +3,6 @@
 use crate::opening::opened_levels;
 use crate::parts::{Sought, level_at, levels_to, one, push_parts, push_range, push_said};
 use std::alloc::{AllocError, Global};
-use std::collections::BTreeSet;
 use text_reading::naming::{
     Parts, Program, Question, QuestionKind, Term, VariableId, VariableKind,
 };
@@ -46,6 +45,39 @@ fn push_related(
         _ => {}
     }
     Ok(())
+}
+
+// Where a search through terms stands: those that were found so far, by the number of the search, and how many of them
+// are still to be gone through.
+#[derive(Drop)]
+struct Search {
+    marks: Vec<usize>,
+    search: usize,
+    left: usize,
+}
+
+impl Search {
+    // Finds those of some terms that have variables and were not found before.
+    fn find(&mut self, open: &[usize], numbers: &[usize]) {
+        for number in numbers {
+            match self.marks.get_mut(*number) {
+                Some(mark) if *mark != self.search && level_at(open, *number) > 0 => {
+                    *mark = self.search;
+                    self.left = self.left.saturating_add(1);
+                }
+                _ => {}
+            }
+        }
+    }
+
+    // Whether a term is to be gone through. Then it is done with.
+    fn take(&mut self, number: usize) -> bool {
+        let found = self.marks.get(number).copied() == Some(self.search);
+        if found {
+            self.left = self.left.saturating_sub(1);
+        }
+        found
+    }
 }
 
 /// So many variables for types and for constants.
@@ -163,6 +195,7 @@ pub struct Depths {
     alloc: Global,
     // Of each term how many levels lead to a variable.
     open: Vec<usize>,
+    search: Search,
     // How many terms a chain of bindings may lead through.
     chained: usize,
     // How many instantiations the context may make.
@@ -183,9 +216,15 @@ impl Depths {
         } else {
             Vec::new(alloc)
         };
+        let marks = vec![in alloc; 0; open.len()]?;
         Ok(Depths {
             alloc,
             open,
+            search: Search {
+                marks,
+                search: 0,
+                left: 0,
+            },
             chained: 0,
             budget: 0,
             types: Variables::new(alloc),
@@ -202,30 +241,29 @@ impl Depths {
         }
     }
 
-    // Those of some terms that have variables, beside others.
-    fn put_open(&self, numbers: &[usize], found: &mut BTreeSet<usize>) -> Result<(), AllocError> {
-        for number in numbers {
-            if level_at(&self.open, *number) > 0 {
-                let _ = found.insert(*number)?;
-            }
-        }
-        Ok(())
-    }
-
     // Goes through the terms with variables that are found from some on. A part has a smaller number than what it is a
     // part of.
-    fn find(&self, program: &Program, roots: &[usize]) -> Result<Found, AllocError> {
+    fn find(&mut self, program: &Program, roots: &[usize]) -> Result<Found, AllocError> {
         let mut parts = Vec::new(self.alloc);
         let mut found = Found {
             open: 0,
             fresh: false,
             named: NONE,
         };
-        let mut left = BTreeSet::new(self.alloc);
-        self.put_open(roots, &mut left)?;
-        for _ in &program.terms {
-            let Some(term) = left.pop_last().and_then(|number| program.terms.get(number)) else {
+        self.search.search = self.search.search.saturating_add(1);
+        self.search.left = 0;
+        self.search.find(&self.open, roots);
+        let top = roots.iter().copied().max().unwrap_or(0);
+        for below in 0..program.terms.len() {
+            if self.search.left == 0 || below > top {
                 return Ok(found);
+            }
+            let number = top - below;
+            if !self.search.take(number) {
+                continue;
+            }
+            let Some(term) = program.terms.get(number) else {
+                continue;
             };
             found.fresh = found.fresh || self.is_fresh(term);
             found.named = found.named.with_term(term);
@@ -234,7 +272,7 @@ impl Depths {
             if !parts.is_empty() {
                 found.open = found.open.saturating_add(1);
             }
-            self.put_open(&parts, &mut left)?;
+            self.search.find(&self.open, &parts);
         }
         Ok(found)
     }
