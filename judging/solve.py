@@ -10,6 +10,8 @@ CODES = {"E0277": NO, "E0283": AMBIGUOUS, "E0282": AMBIGUOUS, "E0284": AMBIGUOUS
 HIDES, KNOWN = "the environment first", "types known"
 # What is said behind a verdict where an impl may be refused by itself.
 OR_DEEP = ", or an impl overflows"
+# Where several impls are for a goal with a variable, rustc says so, also where one of them is too deep to be told of.
+SEVERAL, OR_AMBIGUOUS = "several impls", ", or several impls are for it"
 # What is said where it is ambiguous what the function has and what impls give: rustc takes the former, at each goal.
 IF_FIRST = "ambiguous, unless the environment comes first"
 # The old solver tells a goal both of which one bound fails and another one does not end; and an overflow where it was
@@ -177,6 +179,12 @@ def overflows(impl):
     return isinstance(ty, int) and any(ask[:2] == (trait, ("Row", ty)) for ask in asks)
 
 
+def are_several(case):
+    """Says whether several impls are for the goal, in which a variable stands."""
+    impls, _, goal = case.more
+    return VAR in variables(goal[1:]) and sum(unify(shifted(it[0]), goal, {}) is not None for it in impls) > 1
+
+
 def expected(case, answers):
     alone, verdict = map(told, answers)
     by = ()
@@ -188,7 +196,9 @@ def expected(case, answers):
         return kinds.Expected(IF_FIRST, (HIDES,))
     bound = asking.bindings(answers[-1].text)
     if verdict == YES and VAR in variables(case.more[2][1:]) and is_open("?0", bound):
-        return kinds.Expected(AMBIGUOUS, (*by, KNOWN))
+        verdict, by = AMBIGUOUS, (*by, KNOWN)
+    if verdict == DEEP and are_several(case):
+        return kinds.Expected(verdict + OR_AMBIGUOUS, (*by, SEVERAL))
     if verdict in (YES, NO, AMBIGUOUS) and any(map(overflows, case.more[0])):
         return kinds.Expected(verdict + OR_DEEP, (*by, kinds.OVERFLOW))
     return kinds.Expected(verdict, by)
@@ -208,6 +218,8 @@ def observed(case, said):
 def agrees(expected, seen):
     if expected.endswith(OR_DEEP):
         return seen in (DEEP, BOTH) or agrees(expected.removesuffix(OR_DEEP), seen)
+    if expected.endswith(OR_AMBIGUOUS):
+        return seen == AMBIGUOUS or agrees(expected.removesuffix(OR_AMBIGUOUS), seen)
     allowed = {BOTH: (NO, DEEP)}.get(seen, (seen,))
     return expected in (*allowed, asking.LATE) or expected == IF_FIRST and seen in (YES, NO, AMBIGUOUS)
 
