@@ -6,7 +6,7 @@ use Rattle.relation_terms.specs.declared.terms.keys.ParamEnvKey.{ParamEnvKey}
 use Rattle.relation_semantics.specs.Contexts.{Context}
 use Rattle.relation_combining.specs.Solving.{solving_through, solving_in}
 use Rattle.context_relation.specs.declared.relation.SolverRelating.{SolverRelating}
-use Rattle.context_relation.specs.SolverTerms.{solver_at, solver_after}
+use Rattle.context_relation.specs.SolverStates.{solver_at, solver_after}
 
 module _ {Infcx Interner Key Id Name Span : Type 0} (state : Infcx → Context Key Id Name)
     (r : SolverRelating Infcx Interner Key Id Name Span) {aliases : StructurallyRelateAliases} {c : Infcx} {v : Variance}

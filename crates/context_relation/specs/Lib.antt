@@ -1,5 +1,5 @@
 pub mod Relating
-pub mod SolverTerms
+pub mod SolverStates
 pub mod Stepping
 pub mod Closed
 pub mod Completing

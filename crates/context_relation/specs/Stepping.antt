@@ -42,6 +42,16 @@ module _ {Key Id Name : Type 0} (r q : State Key Id Name) where
     pub store : q.store ≡ r.store
     pub goals : q.goals ≡ r.goals
 
+  -- No goal was registered; what is remembered is what was; the environment is the same.
+  abbrev pub SameGoals : Type 0
+  SameGoals = q.goals ≡ r.goals
+
+  abbrev pub SameMemory : Type 0
+  SameMemory = q.remembered ≡ r.remembered
+
+  abbrev pub SameEnvironment : Type 0
+  SameEnvironment = q.kept.environment ≡ r.kept.environment
+
   -- What comes of two type variables of which nothing is recorded. At invariance they are made one. At covariance a
   -- goal asks that the left one is a subtype of the right one, and at contravariance that the right one is one of the
   -- left one, which is the expected one of both; or a growth was refused, and no goal was registered.
@@ -131,6 +141,10 @@ module _ {Key Id Name : Type 0} (r q : State Key Id Name) where
     met_again : IsRemembered r a b → LeavesAll → result ≡ Ok (Done a) → StepsRead a b Combines result
     combined : Combines result → StepsRead a b Combines result
     not_remembered : (t : TyKey Key) → Combines (Ok (Done t)) → result ≡ Err Memory → StepsRead a b Combines result
+
+  -- The same of two that were resolved shallowly.
+  abbrev pub StepsShallowTys : TyKey Key → TyKey Key → Result (Step (TyKey Key)) (RelateFault Key Id Name) → Type 0
+  StepsShallowTys a b result = StepsRead a b (CombinesShallowTys a b) result
 
   -- At most these two types are remembered besides what was, and only where there is an answer.
   abbrev pub RemembersAnswered : TyKey Key → TyKey Key → Result (Step (TyKey Key)) (RelateFault Key Id Name) → Type 0

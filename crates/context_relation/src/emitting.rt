@@ -1,48 +1,48 @@
 //! The relation of a context registers goals.
-ghost use Rattle.std.specs.Prelude.{◌≡◌};
+ghost use Rattle.std.specs.Prelude.{◌≡◌, [], ◌∷◌};
 ghost use Rattle.relation_semantics.specs.Contexts.{KnowsTy};
 ghost use Rattle.relation_semantics.specs.Goals.{IsDirected};
-ghost use Rattle.relation_goals.specs.Emitting.{KnowsPredicate};
-ghost use Rattle.context_relation.specs.SolverTerms.{SolverAddsGoal, SolverRegistersSubtype, solver_through};
+ghost use Rattle.relation_goals.specs.Emitting.{AddsGoals, KnowsPredicate, RegistersSubtype, goals_in};
+ghost use Rattle.context_relation.specs.SolverStates.{solver_through, through};
 
-use crate::relation::SolverRelating;
+use crate::relation::{SolverRelating, TyIn};
 use relation_combining::combine::PredicateEmittingRelation;
-use relation_goals::goals::{GoalOf, alias_goal, goals_of};
-use relation_goals::recording::subtype_asked;
+use relation_goals::goals::{GoalOf, goals_of};
+use relation_goals::recording::{alias_asked, subtype_asked};
 use relation_semantics::infer_ctxt::InferCtxtLike;
 use relation_semantics::relate::StructurallyRelateAliases;
-use relation_terms::terms::{Goal, Interner, OutOfMemory, ParamEnv, Predicate, Span, Ty};
+use relation_terms::terms::{Goal, Interner, OutOfMemory, ParamEnv, Predicate, Span};
 
 impl<'a, Infcx: InferCtxtLike> SolverRelating<'a, Infcx> {
-    // Registers a goal in the relation's environment, behind the goals that there are.
-    fn register(&mut self, goal: GoalOf<Infcx::Interner>) -> Result<(), OutOfMemory>
+    // Registers a predicate in the relation's environment, behind the goals that there are.
+    fn register(&mut self, predicate: Predicate<Infcx::Interner>) -> Result<(), OutOfMemory>
         requires lawful { (solver_through Infcx.state self.old).lawful }
-        requires environment { goal.param_env ≡ self.old.param_env }
-        requires known { KnowsPredicate (Infcx.state self.old.infcx.now).meaning goal.predicate }
-        ensures { SolverAddsGoal Infcx.state self.old self.new goal.predicate result }
+        requires known { KnowsPredicate (Infcx.state self.old.infcx.now).meaning predicate }
+        ensures { let r = solver_through Infcx.state self.old in
+            AddsGoals r (solver_through Infcx.state self.new) (goals_in r (predicate ∷ [])) result }
     {
-        self.goals.push(goal)?;
+        let param_env = self.param_env;
+        self.goals.push(Goal {
+            param_env,
+            predicate,
+        })?;
         Ok(())
     }
 
     // Registers what is asked of two type variables at the ambient variance: that the one is a subtype of the other.
     pub(super) fn register_subtype_predicate(
         &mut self,
-        a: &Ty<Infcx::Interner>,
-        b: &Ty<Infcx::Interner>,
+        a: &TyIn<Infcx>,
+        b: &TyIn<Infcx>,
     ) -> Result<(), OutOfMemory>
         requires lawful { (solver_through Infcx.state self.old).lawful }
         requires directed { IsDirected self.old.ambient_variance }
         requires a_known { KnowsTy (Infcx.state self.old.infcx.now) a.now }
         requires b_known { KnowsTy (Infcx.state self.old.infcx.now) b.now }
-        ensures { SolverRegistersSubtype Infcx.state self.old self.new a.now b.now result }
+        ensures { through Infcx.state RegistersSubtype self.old self.new a.now b.now result }
     {
         let predicate = subtype_asked(&mut *self.infcx, self.ambient_variance, a, b)?;
-        let param_env = self.param_env;
-        self.register(Goal {
-            param_env,
-            predicate,
-        })
+        self.register(predicate)
     }
 }
 
@@ -78,12 +78,11 @@ impl<'a, Infcx: InferCtxtLike> PredicateEmittingRelation<Infcx> for SolverRelati
 
     fn register_alias_relate_predicate(
         &mut self,
-        a: &Ty<Infcx::Interner>,
-        b: &Ty<Infcx::Interner>,
+        a: &TyIn<Infcx>,
+        b: &TyIn<Infcx>,
     ) -> Result<(), OutOfMemory> {
-        let param_env = self.param_env;
-        let goal = alias_goal(&mut *self.infcx, param_env, self.ambient_variance, a, b)?;
-        self.register(goal)
+        let predicate = alias_asked(&mut *self.infcx, self.ambient_variance, a, b)?;
+        self.register(predicate)
     }
 
     fn register_goals(&mut self, goals: &[GoalOf<Infcx::Interner>]) -> Result<(), OutOfMemory> {

@@ -29,7 +29,7 @@ use Rattle.relation_semantics.proofs.Beginning.{begins_by}
 use Rattle.relation_semantics.proofs.Standing.{itself_stands}
 use Rattle.relation_semantics.proofs.StoreCalls.{number_stands}
 use Rattle.relation_semantics.specs.Stores.{Store, unbound, entry_of, IsSound, Satisfies, IsMade, InContext, MayStandFor}
-use Rattle.relation_semantics.specs.Stores.{weight}
+use Rattle.relation_semantics.specs.Stores.{weight, IsTermIn}
 use Rattle.relation_semantics.specs.Goals.{Goal, GoalInContext, MakesOneTree}
 use Rattle.relation_semantics.specs.Steps.{IsLater, Equates, InstantiatesNumber, StaysFull, IsNumberKind}
 use Rattle.relation_semantics.specs.Alphabets.{StaysBuilt, IsBuiltOf}
@@ -40,6 +40,7 @@ use Rattle.relation_semantics.specs.Errors.{ErrorOf, IsDeferred, of_entries, IsR
 use Rattle.relation_semantics.specs.FirstOrder.{IsFirstOrderStore}
 use Rattle.relation_semantics.specs.Bound.{IsWellBound}
 use Rattle.relation_semantics.specs.Lawful.{RegisteredIn, Passes, Asked, Takes, Stepped, items_of, Kept, Pair, State}
+use Rattle.relation_combining.specs.Combining.{CanCombine, CanMeet}
 use Rattle.relation_goals.specs.Emitting.{IsOver, WithContext}
 use Rattle.relation_semantics.specs.Contexts.{Context}
 use Rattle.relation_semantics.specs.ContextCalls.{Grows, Stands, BindingsAreWellBound}
@@ -390,3 +391,21 @@ grows_then c d e f g = record {
   setup = g.setup ∙ f.setup;
   outliving = g.outliving ∙ f.outliving;
 }
+
+-- Two that are asked of a relation are met in the context that it is over.
+pub can_meet : {Key Id Name A : Type 0} (tree : Meaning Key Id Name → A → Tree) (Is : Store → Tree → Type 0)
+    {r : State Key Id Name} {s : Context Key Id Name} → IsOver r s → (a b : A) → CanCombine tree Is r a b →
+    CanMeet tree Is s a b
+can_meet tree Is o a b can =
+    let k = can.asked in
+    record {
+      lawful = o.lawful can.lawful;
+      a_known = subst (λ m. IsTrue (known (tree m a))) o.meaning k.left_known;
+      b_known = subst (λ m. IsTrue (known (tree m b))) o.meaning k.right_known;
+      a_in = subst₂ (λ st m. IsTermIn st (tree m a)) o.store o.meaning k.left_in;
+      b_in = subst₂ (λ st m. IsTermIn st (tree m b)) o.store o.meaning k.right_in;
+      a_taken = subst (λ m. IsWellBound (tree m a)) o.meaning k.left_taken.1;
+      b_taken = subst (λ m. IsWellBound (tree m b)) o.meaning k.right_taken.1;
+      a_shallow = subst₂ (λ st m. Is st (tree m a)) o.store o.meaning can.a_shallow;
+      b_shallow = subst₂ (λ st m. Is st (tree m b)) o.store o.meaning can.b_shallow;
+    }

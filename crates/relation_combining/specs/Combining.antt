@@ -1,10 +1,10 @@
 -- What comes of two types, and of two constants, before their parts are related: case by case.
-use Rattle.std.specs.Prelude.{◌≡◌, ◌≢◌, ◌⊎◌, ℕ, true, max, min, [], ◌∷◌, ◌++◌, Some, Result, Ok, Err}
-use Rattle.term_enums.specs.declared.Variance.TheVariants.{Invariant}
+use Rattle.std.specs.Prelude.{◌≡◌, ◌≢◌, ◌⊎◌, ℕ, true, IsTrue, max, min, [], ◌∷◌, ◌++◌, Some, None, Result, Ok, Err}
+use Rattle.term_enums.specs.declared.Variance.TheVariants.{Invariant, Bivariant}
 use Rattle.relation_terms.specs.declared.terms.keys.TyKey.{TyKey}
 use Rattle.relation_terms.specs.declared.terms.keys.ConstKey.{ConstKey}
 use Rattle.relation_terms.specs.Heads.{VarKind, const_var, variable}
-use Rattle.relation_terms.specs.Trees.{Tree, leaf}
+use Rattle.relation_terms.specs.Trees.{Tree, leaf, known}
 use Rattle.relation_terms.specs.Meaning.{Meaning}
 use Rattle.relation_folds.specs.declared.error.TypeError.TheVariants.{Sorts, CyclicConst}
 use Rattle.relation_folds.specs.declared.error.RelateFault.{RelateFault}
@@ -14,6 +14,7 @@ use Rattle.relation_semantics.specs.declared.infer_ctxt.TypingMode.TheVariants.{
 use Rattle.relation_semantics.specs.declared.relate.Step.{Step}
 use Rattle.relation_semantics.specs.declared.relate.Step.TheVariants.{Done, Parts, Again}
 use Rattle.term_enums.specs.declared.StructurallyRelateAliases.{StructurallyRelateAliases}
+use Rattle.relation_semantics.specs.Bound.{IsWellBound}
 use Rattle.relation_semantics.specs.Contexts.{Context}
 use Rattle.relation_semantics.specs.ContextCalls.{Instantiated, Reads}
 use Rattle.relation_semantics.specs.AliasGoals.{alias_at}
@@ -27,14 +28,37 @@ use Rattle.relation_combining.specs.NumberVars.{IsNoNumberVar}
 use Rattle.relation_semantics.specs.Parts.{IsFormedConst}
 use Rattle.relation_semantics.specs.Resolving.{IsShallowConst}
 use Rattle.relation_semantics.specs.Steps.{IsNumberKind, Equates, InstantiatesNumber, Taints}
-use Rattle.relation_semantics.specs.Stores.{Store, MayStandFor}
+use Rattle.relation_semantics.specs.Stores.{Store, MayStandFor, IsTermIn}
 use Rattle.relation_steps.specs.Keyed.{SteppedTys}
+use Rattle.relation_steps.specs.Terms.{AskedTerms}
 use Rattle.relation_combining.specs.Solving.{solver_manner}
 
 -- Two variables of a kind were made one, the smaller number being the root; one with itself changes nothing.
 pub record Joins (before after : Store) (k : VarKind) (a b : ℕ) : Type 0 where
   pub same : a ≡ b → after ≡ before
   pub equates : a ≢ b → Equates before after k (max a b) (min a b)
+
+-- What combining two asks that were resolved shallowly, of which `tree` says what they mean, and `IsShallow` that they are.
+pub record CanCombine {Key Id Name A : Type 0} (tree : Meaning Key Id Name → A → Tree) (IsShallow : Store → Tree → Type 0)
+    (r : State Key Id Name) (a b : A) : Type 0 where
+  pub lawful : r.lawful
+  pub decides : r.ambient ≢ Bivariant
+  pub asked : AskedTerms solver_manner None tree r a b
+  pub a_shallow : IsShallow r.store (tree r.meaning a)
+  pub b_shallow : IsShallow r.store (tree r.meaning b)
+
+-- What meeting asks of two in a context, likewise.
+pub record CanMeet {Key Id Name A : Type 0} (tree : Meaning Key Id Name → A → Tree) (IsShallow : Store → Tree → Type 0)
+    (c : Context Key Id Name) (a b : A) : Type 0 where
+  pub lawful : c.lawful
+  pub a_known : IsTrue (known (tree c.meaning a))
+  pub b_known : IsTrue (known (tree c.meaning b))
+  pub a_in : IsTermIn c.store (tree c.meaning a)
+  pub b_in : IsTermIn c.store (tree c.meaning b)
+  pub a_taken : IsWellBound (tree c.meaning a)
+  pub b_taken : IsWellBound (tree c.meaning b)
+  pub a_shallow : IsShallow c.store (tree c.meaning a)
+  pub b_shallow : IsShallow c.store (tree c.meaning b)
 
 -- No variable of types at all.
 abbrev pub IsNoVariable : Tree → Type 0

@@ -1,42 +1,38 @@
-//! Relations that register goals, and what they register of types over one item, whose arguments were related.
-ghost use Rattle.std.specs.Prelude.{◌≡◌, ◌≢◌, ◌<◌, [], ◌∷◌, All, None, IsTrue, IsFalse, IfOk, map};
+//! Relations that register goals, and what comes of two types or constants that meet, before their parts are related.
+ghost use Rattle.std.specs.Prelude.{◌≡◌, ◌≢◌, ◌⊎◌, [], ◌∷◌, All, None, IsTrue, IsFalse};
 ghost use Rattle.std.specs.Borrow.{sem, Lends};
-ghost use Rattle.relation_terms.specs.Trees.{known, count, nth};
-ghost use Rattle.relation_terms.specs.Meaning.{arg_tree};
+ghost use Rattle.relation_terms.specs.Trees.{known};
+ghost use Rattle.relation_terms.specs.Predicates.{predicate_kind_tree};
 ghost use Rattle.term_enums.specs.declared.Variance.TheVariants.{Bivariant};
-ghost use Rattle.relation_steps.specs.Bivariance.{is_left_open, TellsOpen, TellsEitherOpen, AsksWellFormed};
-ghost use Rattle.term_enums.specs.declared.AliasRelationDirection.TheVariants.{Equate};
-ghost use Rattle.relation_combining.specs.Combining.{TysCombine, ConstsCombine, CombinesShallow, TaintsAlone};
-ghost use Rattle.relation_combining.specs.Combining.{KeepsKept, AreFormedConsts, StepsUnlessVars};
-ghost use Rattle.relation_semantics.specs.ContextCalls.{Grows};
-ghost use Rattle.relation_goals.specs.Emitting.{AddsGoals, IsOver, KnowsPredicate, RegistersAlias, RegistersGoal};
-ghost use Rattle.relation_goals.specs.Emitting.{goals_in, FollowsContext};
-ghost use Rattle.relation_combining.specs.Deferring.{DefersConst};
-ghost use Rattle.relation_semantics.specs.Contexts.{KnowsTy};
-ghost use Rattle.relation_semantics.specs.Goals.{KnowsGoal, goals_of, well_formed_predicate, ambiguous_predicate};
-ghost use Rattle.relation_semantics.specs.Goals.{alias_relate_predicate};
-ghost use Rattle.relation_steps.specs.Keyed.{AreOver, SteppedConsts, NotedTys};
-ghost use Rattle.relation_semantics.specs.Lawful.{RelatesByDeclared, items_of};
+ghost use Rattle.relation_semantics.specs.AskedAlone.{IsTyVar, IsNoTyVar};
+ghost use Rattle.relation_semantics.specs.Contexts.{KnowsTy, KnowsConst, HasConst};
+ghost use Rattle.relation_semantics.specs.ContextCalls.{Grows, Stands};
+ghost use Rattle.relation_semantics.specs.Goals.{KnowsGoal, goals_of};
 ghost use Rattle.relation_semantics.specs.Resolving.{IsShallow, IsShallowConst};
-ghost use Rattle.relation_combining.specs.Solving.{solver_manner};
+ghost use Rattle.relation_steps.specs.Keyed.{SteppedConsts};
 ghost use Rattle.relation_steps.specs.Terms.{AskedTerms};
-ghost use Rattle.relation_semantics.specs.Stores.{IsTermIn};
+ghost use Rattle.relation_goals.specs.Emitting.{AddsGoals, IsOver, KnowsPredicate, RegistersAlias, RegistersGoal};
+ghost use Rattle.relation_goals.specs.Emitting.{goals_in, dummy_predicate, FollowsContext};
+ghost use Rattle.relation_combining.specs.Combining.{CanCombine, CanMeet, TysMeet, TysCombine, TaintsAlone};
+ghost use Rattle.relation_combining.specs.Combining.{ConstsMeet, ConstsCombine, CombinesShallow, AreFormedConsts};
+ghost use Rattle.relation_combining.specs.Combining.{KeepsKept, StepsUnlessVars};
+ghost use Rattle.relation_combining.specs.Deferring.{DefersConst};
+ghost use Rattle.relation_combining.specs.Solving.{solver_manner};
 
-mod meeting;
-
-use crate::combine::meeting::{are_no_const_vars, meet_consts, meet_tys};
-use crate::deferring::{Deferring, Standing, defers_const, left_to, ty_standing};
+use crate::deferring::{Deferring, Standing, defers_aliases, is_unevaluated, left_to, ty_standing};
+use crate::number_vars::{bind_number, equate_numbers, number_var, unlike_numbers};
+pub use crate::ty_args::combine_ty_args;
+use crate::variables::{const_var, ty_var};
 use relation_folds::error::RelateResult;
 use relation_goals::goals::GoalOf;
-use relation_goals::recording;
+use relation_goals::recording::{PredicateKindOf, dummy_predicate};
 use relation_semantics::infer_ctxt::InferCtxtLike;
 use relation_semantics::relate::{Step, StructurallyRelateAliases};
-use relation_semantics::variances::declared_variance;
-use relation_steps::arguments::{arg_at, args_count};
 use relation_steps::type_relation::HasState;
+use relation_terms::predicate::PredicateKind;
 use relation_terms::terms::{
-    AliasRelationDirection, Const, ErrorGuaranteed, GenericArg, GenericArgKind, GenericArgs,
-    Interner, ItemOf, OutOfMemory, ParamEnv, Predicate, Span, TermKind, Ty, Variance,
+    AliasRelationDirection, Const, ErrorGuaranteed, Interner, OutOfMemory, ParamEnv, Predicate,
+    Span, TermKind, Ty, Variance,
 };
 
 /// A relation of the terms of a context, which registers goals.
@@ -108,169 +104,6 @@ pub trait PredicateEmittingRelation<Infcx: InferCtxtLike>: HasState<Infcx::Inter
     ghost over: { (r : Self) → IsOver (Self.state r) (Infcx.state (context r)) };
 }
 
-// The variance that an item declares of its parameter at a place, to a context's interner.
-fn variance_in<Infcx: InferCtxtLike>(
-    infcx: &Infcx,
-    def_id: &ItemOf<Infcx::Interner>,
-    i: usize,
-) -> Variance
-    ensures { let m = (Infcx.state infcx.now).meaning in result ≡ (items_of m).declared (m.id (def_id.now).0) i }
-{
-    declared_variance(infcx.cx(), def_id, i)
-}
-
-// The number of arguments of a list, and the one at a place.
-fn args_count_in<Infcx: InferCtxtLike>(infcx: &Infcx, args: &GenericArgs<Infcx::Interner>) -> usize
-    requires { IsTrue (known ((Infcx.state infcx.now).meaning.args args.now)) }
-    ensures { result ≡ count ((Infcx.state infcx.now).meaning.args args.now) }
-{
-    args_count(infcx.cx(), args)
-}
-
-fn arg_in<Infcx: InferCtxtLike>(
-    infcx: &Infcx,
-    args: &GenericArgs<Infcx::Interner>,
-    i: usize,
-) -> GenericArg<Infcx::Interner>
-    requires args_known { IsTrue (known ((Infcx.state infcx.now).meaning.args args.now)) }
-    requires in_bounds { i < count ((Infcx.state infcx.now).meaning.args args.now) }
-    ensures sure { IsTrue (known (arg_tree (Infcx.state infcx.now).meaning result)) }
-    ensures means { let m = (Infcx.state infcx.now).meaning in arg_tree m result ≡ nth i (m.args args.now) }
-{
-    arg_at(infcx.cx(), args, i)
-}
-
-// Whether a variable, but of regions, stands in what an argument comes to. Nothing is recorded.
-fn is_left_open<Infcx: InferCtxtLike>(
-    infcx: &mut Infcx,
-    arg: &GenericArg<Infcx::Interner>,
-) -> Result<bool, OutOfMemory>
-    requires lawful { (Infcx.state infcx.old).lawful }
-    requires arg_known { IsTrue (known (arg_tree (Infcx.state infcx.old).meaning arg.now)) }
-    requires arg_in { let c = Infcx.state infcx.old in IsTermIn c.store (arg_tree c.meaning arg.now) }
-    ensures grows { Grows (Infcx.state infcx.old) (Infcx.state infcx.new) }
-    ensures same_record { (Infcx.state infcx.new).store ≡ (Infcx.state infcx.old).store }
-    ensures tells { let c = Infcx.state infcx.old in
-        IfOk result (λ b. b ≡ is_left_open c.store (arg_tree c.meaning arg.now)) }
-{
-    match arg {
-        GenericArgKind::Lifetime(_) => Ok(false),
-        GenericArgKind::Ty(ty) => {
-            let resolved = infcx.resolve_vars_if_possible(ty)?;
-            Ok(infcx.cx().ty_flags(&resolved).has_non_region_infer)
-        }
-        GenericArgKind::Const(constant) => {
-            let resolved = infcx.resolve_vars_if_possible(constant)?;
-            Ok(infcx.cx().const_flags(&resolved).has_non_region_infer)
-        }
-    }
-}
-
-// Whether an argument of a list that an item declares bivariant is left open. Nothing is recorded.
-fn has_open_argument<Infcx: InferCtxtLike>(
-    infcx: &mut Infcx,
-    def_id: &ItemOf<Infcx::Interner>,
-    args: &GenericArgs<Infcx::Interner>,
-) -> Result<bool, OutOfMemory>
-    requires lawful { (Infcx.state infcx.old).lawful }
-    requires args_known { IsTrue (known ((Infcx.state infcx.old).meaning.args args.now)) }
-    requires args_in { let c = Infcx.state infcx.old in IsTermIn c.store (c.meaning.args args.now) }
-    ensures grows { Grows (Infcx.state infcx.old) (Infcx.state infcx.new) }
-    ensures same_record { (Infcx.state infcx.new).store ≡ (Infcx.state infcx.old).store }
-    ensures tells { let c = Infcx.state infcx.old in let m = c.meaning in
-        TellsOpen (items_of m) c.store (m.id (def_id.now).0) (m.args args.now) result }
-{
-    let n = args_count_in(&*infcx, args);
-    for i in 0..n {
-        if let Variance::Bivariant = variance_in(&*infcx, def_id, i) {
-            let arg = arg_in(&*infcx, args, i);
-            if is_left_open(infcx, &arg)? {
-                return Ok(true);
-            }
-        }
-    }
-    Ok(false)
-}
-
-// The same of one of two lists.
-fn have_open_argument<Infcx: InferCtxtLike>(
-    infcx: &mut Infcx,
-    def_id: &ItemOf<Infcx::Interner>,
-    a_args: &GenericArgs<Infcx::Interner>,
-    b_args: &GenericArgs<Infcx::Interner>,
-) -> Result<bool, OutOfMemory>
-    requires lawful { (Infcx.state infcx.old).lawful }
-    requires a_known { IsTrue (known ((Infcx.state infcx.old).meaning.args a_args.now)) }
-    requires b_known { IsTrue (known ((Infcx.state infcx.old).meaning.args b_args.now)) }
-    requires a_in { let c = Infcx.state infcx.old in IsTermIn c.store (c.meaning.args a_args.now) }
-    requires b_in { let c = Infcx.state infcx.old in IsTermIn c.store (c.meaning.args b_args.now) }
-    ensures grows { Grows (Infcx.state infcx.old) (Infcx.state infcx.new) }
-    ensures same_record { (Infcx.state infcx.new).store ≡ (Infcx.state infcx.old).store }
-    ensures tells { let c = Infcx.state infcx.old in let m = c.meaning in TellsEitherOpen (items_of m) c.store
-        (m.id (def_id.now).0) (m.args a_args.now) (m.args b_args.now) result }
-{
-    if has_open_argument(infcx, def_id, a_args)? {
-        return Ok(true);
-    }
-    has_open_argument(infcx, def_id, b_args)
-}
-
-// The predicates that two types are well formed. Nothing is recorded.
-fn both_well_formed<Infcx: InferCtxtLike>(
-    infcx: &mut Infcx,
-    a: &Ty<Infcx::Interner>,
-    b: &Ty<Infcx::Interner>,
-) -> Result<Vec<Predicate<Infcx::Interner>>, OutOfMemory>
-    requires lawful { (Infcx.state infcx.old).lawful }
-    requires a_known { KnowsTy (Infcx.state infcx.old) a.now }
-    requires b_known { KnowsTy (Infcx.state infcx.old) b.now }
-    ensures grows { Grows (Infcx.state infcx.old) (Infcx.state infcx.new) }
-    ensures same_record { (Infcx.state infcx.new).store ≡ (Infcx.state infcx.old).store }
-    ensures made { let m = (Infcx.state infcx.old).meaning in let n = (Infcx.state infcx.new).meaning in
-        IfOk result (λ ps. map n.predicate ps.items ≡
-        well_formed_predicate (m.ty a.now) ∷ well_formed_predicate (m.ty b.now) ∷ []) }
-{
-    let mut predicates = Vec::new(infcx.cx().alloc());
-    predicates.push(recording::well_formed_predicate(infcx, a)?)?;
-    predicates.push(recording::well_formed_predicate(infcx, b)?)?;
-    Ok(predicates)
-}
-
-/// Registers, in the relation's environment, that two types over one item are well formed, the first one's first, where
-/// an argument of either that the item declares bivariant is left open: a variable, but of regions, stands in what it
-/// comes to. Relating the types has left that argument aside, so nothing else would ever say what the variable is.
-///
-/// Both types are the relation's, and the lists are theirs. It is called where their arguments were related at the
-/// variances that the item declares. Answers `Memory` where a growth was refused, else nothing.
-/// Upstream it relates the arguments too, and looks at each as its place comes.
-pub fn combine_ty_args<Infcx: InferCtxtLike, R: PredicateEmittingRelation<Infcx>>(
-    r: &mut R,
-    a_ty: &Ty<Infcx::Interner>,
-    b_ty: &Ty<Infcx::Interner>,
-    def_id: &ItemOf<Infcx::Interner>,
-    a_args: &GenericArgs<Infcx::Interner>,
-    b_args: &GenericArgs<Infcx::Interner>,
-) -> RelateResult<Infcx::Interner, ()>
-    requires lawful { (R.state r.old).lawful }
-    requires a_known { IsTrue (known ((R.state r.old).meaning.ty a_ty.now)) }
-    requires b_known { IsTrue (known ((R.state r.old).meaning.ty b_ty.now)) }
-    requires a_in { let q = R.state r.old in IsTermIn q.store (q.meaning.ty a_ty.now) }
-    requires b_in { let q = R.state r.old in IsTermIn q.store (q.meaning.ty b_ty.now) }
-    requires by_declared { RelatesByDeclared (R.state r.old) }
-    requires over { AreOver (R.state r.old) def_id.now a_ty.now b_ty.now a_args.now b_args.now }
-    ensures noted { NotedTys (R.state r.old) (R.state r.new) a_ty.now b_ty.now result }
-    ensures registers { AsksWellFormed R.state r.old r.new def_id.now a_ty.now b_ty.now a_args.now b_args.now result }
-{
-    r.lemma_context_grows();
-    if !have_open_argument(r.infcx_mut(), def_id, a_args, b_args)? {
-        return Ok(());
-    }
-    r.lemma_context_grows();
-    let predicates = both_well_formed(r.infcx_mut(), a_ty, b_ty)?;
-    r.register_predicates(predicates.as_slice())?;
-    Ok(())
-}
-
 // Registers a predicate, behind the goals that there are.
 fn register_one<Infcx: InferCtxtLike, R: PredicateEmittingRelation<Infcx>>(
     relation: &mut R,
@@ -286,34 +119,18 @@ fn register_one<Infcx: InferCtxtLike, R: PredicateEmittingRelation<Infcx>>(
     relation.register_predicates(predicates.as_slice())
 }
 
-// Registers that too much was met to tell.
-fn register_ambiguous<Infcx: InferCtxtLike, R: PredicateEmittingRelation<Infcx>>(
+// Registers the predicate of a form, under a binder of no variables.
+fn register<Infcx: InferCtxtLike, R: PredicateEmittingRelation<Infcx>>(
     relation: &mut R,
+    kind: PredicateKindOf<Infcx::Interner>,
 ) -> Result<(), OutOfMemory>
     requires lawful { (R.state relation.old).lawful }
-    ensures { RegistersGoal (R.state relation.old) (R.state relation.new) ambiguous_predicate result }
+    requires kind_known { IsTrue (known (predicate_kind_tree (R.state relation.old).meaning kind)) }
+    ensures { let r = R.state relation.old in
+        RegistersGoal r (R.state relation.new) (dummy_predicate r.meaning kind) result }
 {
     relation.lemma_context_grows();
-    let predicate = recording::ambiguous_predicate(relation.infcx_mut())?;
-    register_one(relation, predicate)
-}
-
-// Registers that two constants, one unevaluated, are one.
-fn register_const_alias<Infcx: InferCtxtLike, R: PredicateEmittingRelation<Infcx>>(
-    relation: &mut R,
-    a: &Const<Infcx::Interner>,
-    b: &Const<Infcx::Interner>,
-) -> Result<(), OutOfMemory>
-    requires lawful { (R.state relation.old).lawful }
-    requires a_known { IsTrue (known ((R.state relation.old).meaning.const_ a.now)) }
-    requires b_known { IsTrue (known ((R.state relation.old).meaning.const_ b.now)) }
-    ensures { let m = (R.state relation.old).meaning in RegistersGoal (R.state relation.old) (R.state relation.new)
-        (alias_relate_predicate Equate (m.const_ a.now) (m.const_ b.now)) result }
-{
-    relation.lemma_context_grows();
-    let infcx = relation.infcx_mut();
-    let (x, y) = (TermKind::Const(*a), TermKind::Const(*b));
-    let predicate = recording::alias_relate_predicate(infcx, x, y, AliasRelationDirection::Equate)?;
+    let predicate = dummy_predicate(relation.infcx_mut(), kind)?;
     register_one(relation, predicate)
 }
 
@@ -325,6 +142,71 @@ fn taint<Infcx: InferCtxtLike, R: PredicateEmittingRelation<Infcx>>(relation: &m
 {
     relation.lemma_context_grows();
     relation.infcx_mut().set_tainted_by_errors(ErrorGuaranteed);
+}
+
+// Whether neither of two types is a type variable.
+fn are_no_ty_vars<Infcx: InferCtxtLike>(
+    infcx: &Infcx,
+    a: &Ty<Infcx::Interner>,
+    b: &Ty<Infcx::Interner>,
+) -> bool
+    requires a_known { KnowsTy (Infcx.state infcx.now) a.now }
+    requires b_known { KnowsTy (Infcx.state infcx.now) b.now }
+    ensures none { let m = (Infcx.state infcx.now).meaning in
+        IsTrue result → IsNoTyVar (m.ty a.now) × IsNoTyVar (m.ty b.now) }
+    ensures one { let m = (Infcx.state infcx.now).meaning in
+        IsFalse result → IsTyVar (m.ty a.now) ⊎ IsTyVar (m.ty b.now) }
+{
+    if let Some(_) = ty_var(infcx, a) {
+        return false;
+    }
+    if let Some(_) = ty_var(infcx, b) {
+        return false;
+    }
+    true
+}
+
+// What comes of two types that were resolved shallowly: number variables are made one, or bound to a type of theirs;
+// type variables are refused; all others are left to be related by their parts.
+fn meet_tys<Infcx: InferCtxtLike>(
+    infcx: &mut Infcx,
+    a: &Ty<Infcx::Interner>,
+    b: &Ty<Infcx::Interner>,
+) -> RelateResult<Infcx::Interner, Step<Ty<Infcx::Interner>>>
+    requires { CanMeet (λ m. m.ty) IsShallow (Infcx.state infcx.old) a.now b.now }
+    ensures stands { Stands (Infcx.state infcx.old) (Infcx.state infcx.new) }
+    ensures combines { TysMeet (Infcx.state infcx.old) (Infcx.state infcx.new) a.now b.now result }
+{
+    match number_var(&*infcx, a) {
+        Some(x) => match number_var(&*infcx, b) {
+            Some(y) => {
+                if !equate_numbers(infcx, x, y) {
+                    return Err(unlike_numbers::<Infcx::Interner>(a, b));
+                }
+                Ok(Step::Done(*a))
+            }
+            None => {
+                if !bind_number(infcx, x, b) {
+                    return Err(unlike_numbers::<Infcx::Interner>(a, b));
+                }
+                Ok(Step::Done(*b))
+            }
+        },
+        None => match number_var(&*infcx, b) {
+            Some(y) => {
+                if !bind_number(infcx, y, a) {
+                    return Err(unlike_numbers::<Infcx::Interner>(a, b));
+                }
+                Ok(Step::Done(*a))
+            }
+            None => {
+                if !are_no_ty_vars(&*infcx, a, b) {
+                    return Err(unlike_numbers::<Infcx::Interner>(a, b));
+                }
+                Ok(Step::Parts { a: *a, b: *b })
+            }
+        },
+    }
 }
 
 /// What comes of two types that were resolved shallowly, before their parts are related, in this order:
@@ -350,11 +232,7 @@ pub fn super_combine_tys<Infcx: InferCtxtLike, R: PredicateEmittingRelation<Infc
     a: &Ty<Infcx::Interner>,
     b: &Ty<Infcx::Interner>,
 ) -> RelateResult<Infcx::Interner, Step<Ty<Infcx::Interner>>>
-    requires lawful { (R.state relation.old).lawful }
-    requires decides { (R.state relation.old).ambient ≢ Bivariant }
-    requires asked { AskedTerms solver_manner None (λ m. m.ty) (R.state relation.old) a.now b.now }
-    requires a_shallow { let r = R.state relation.old in IsShallow r.store (r.meaning.ty a.now) }
-    requires b_shallow { let r = R.state relation.old in IsShallow r.store (r.meaning.ty b.now) }
+    requires { CanCombine (λ m. m.ty) IsShallow (R.state relation.old) a.now b.now }
     ensures stepped { StepsUnlessVars (R.state relation.old) (R.state relation.new) a.now b.now result }
     ensures combines { TysCombine (R.state relation.old) (R.state relation.new) a.now b.now result }
     ensures memory { (R.state relation.new).remembered ≡ (R.state relation.old).remembered }
@@ -375,13 +253,82 @@ pub fn super_combine_tys<Infcx: InferCtxtLike, R: PredicateEmittingRelation<Infc
             Ok(Step::Done(*a))
         }
         Deferring::Open => {
-            register_ambiguous::<Infcx, R>(relation)?;
+            register::<Infcx, R>(relation, PredicateKind::Ambiguous)?;
             Ok(Step::Done(*a))
         }
         Deferring::ToNone => {
             relation.lemma_context_grows();
             meet_tys(relation.infcx_mut(), a, b)
         }
+    }
+}
+
+// Whether neither of two constants is a variable.
+fn are_no_const_vars<Infcx: InferCtxtLike>(
+    infcx: &Infcx,
+    a: &Const<Infcx::Interner>,
+    b: &Const<Infcx::Interner>,
+) -> bool
+    requires a_known { KnowsConst (Infcx.state infcx.now) a.now }
+    requires b_known { KnowsConst (Infcx.state infcx.now) b.now }
+    requires a_in { HasConst (Infcx.state infcx.now) a.now }
+    requires b_in { HasConst (Infcx.state infcx.now) b.now }
+    ensures none { IsTrue result → AreFormedConsts (Infcx.state infcx.now).meaning a.now b.now }
+    ensures one { IsFalse result → AreFormedConsts (Infcx.state infcx.now).meaning a.now b.now → ⊥ }
+{
+    if let Some(_) = const_var(infcx, a) {
+        return false;
+    }
+    if let Some(_) = const_var(infcx, b) {
+        return false;
+    }
+    true
+}
+
+// What comes of two constants that were resolved shallowly: a variable is made one with another, or bound to a
+// constant, which is then to be related with that; all others are left to be related by their parts.
+fn meet_consts<Infcx: InferCtxtLike>(
+    infcx: &mut Infcx,
+    aliases: StructurallyRelateAliases,
+    a: &Const<Infcx::Interner>,
+    b: &Const<Infcx::Interner>,
+) -> RelateResult<Infcx::Interner, Step<Const<Infcx::Interner>>>
+    requires { CanMeet (λ m. m.const_) IsShallowConst (Infcx.state infcx.old) a.now b.now }
+    ensures grows { Grows (Infcx.state infcx.old) (Infcx.state infcx.new) }
+    ensures combines { ConstsMeet (Infcx.state infcx.old) (Infcx.state infcx.new) aliases a.now b.now result }
+{
+    match const_var(&*infcx, a) {
+        Some(x) => match const_var(&*infcx, b) {
+            Some(y) => {
+                infcx.equate_const_vids_raw(x, y);
+                Ok(Step::Done(*a))
+            }
+            None => {
+                let value = infcx.instantiate_const_var_raw(aliases, x, b)?;
+                Ok(Step::Again {
+                    a: *a,
+                    b: *b,
+                    x: value,
+                    y: *b,
+                    variance: Variance::Invariant,
+                    answer: *b,
+                })
+            }
+        },
+        None => match const_var(&*infcx, b) {
+            Some(y) => {
+                let value = infcx.instantiate_const_var_raw(aliases, y, a)?;
+                Ok(Step::Again {
+                    a: *a,
+                    b: *b,
+                    x: *a,
+                    y: value,
+                    variance: Variance::Invariant,
+                    answer: *a,
+                })
+            }
+            None => Ok(Step::Parts { a: *a, b: *b }),
+        },
     }
 }
 
@@ -437,7 +384,14 @@ fn is_left_const<Infcx: InferCtxtLike, R: PredicateEmittingRelation<Infcx>>(
     if !are_no_const_vars(relation.infcx(), a, b) {
         return false;
     }
-    defers_const::<Infcx, R>(relation, a, b)
+    if !defers_aliases::<Infcx, R>(relation) {
+        return false;
+    }
+    let infcx = relation.infcx();
+    if is_unevaluated(infcx, a) {
+        return true;
+    }
+    is_unevaluated(infcx, b)
 }
 
 // What comes of two constants that were resolved shallowly.
@@ -446,17 +400,15 @@ fn combine_shallow<Infcx: InferCtxtLike, R: PredicateEmittingRelation<Infcx>>(
     a: &Const<Infcx::Interner>,
     b: &Const<Infcx::Interner>,
 ) -> RelateResult<Infcx::Interner, Step<Const<Infcx::Interner>>>
-    requires lawful { (R.state relation.old).lawful }
-    requires decides { (R.state relation.old).ambient ≢ Bivariant }
-    requires asked { AskedTerms solver_manner None (λ m. m.const_) (R.state relation.old) a.now b.now }
-    requires a_shallow { let r = R.state relation.old in IsShallowConst r.store (r.meaning.const_ a.now) }
-    requires b_shallow { let r = R.state relation.old in IsShallowConst r.store (r.meaning.const_ b.now) }
+    requires { CanCombine (λ m. m.const_) IsShallowConst (R.state relation.old) a.now b.now }
     ensures stepped { SteppedConsts solver_manner (R.state relation.old) (R.state relation.new) a.now b.now result }
     ensures combines { CombinesShallow (R.state relation.old) (R.state relation.new) a.now b.now result }
     ensures memory { (R.state relation.new).remembered ≡ (R.state relation.old).remembered }
 {
     if is_left_const::<Infcx, R>(relation, a, b) {
-        register_const_alias::<Infcx, R>(relation, a, b)?;
+        let (x, y) = (TermKind::Const(*a), TermKind::Const(*b));
+        let kind = PredicateKind::AliasRelate(x, y, AliasRelationDirection::Equate);
+        register::<Infcx, R>(relation, kind)?;
         return Ok(Step::Done(*b));
     }
     relation.lemma_context_grows();

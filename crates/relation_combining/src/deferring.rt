@@ -1,12 +1,11 @@
 //! Which pairs are left to goals: aliases, and opaque types in coherence.
-ghost use Rattle.std.specs.Prelude.{◌↔◌, true, IsTrue, IsFalse};
+ghost use Rattle.std.specs.Prelude.{◌↔◌, IsTrue, IsFalse};
 ghost use Rattle.relation_terms.specs.Meaning.{Meaning, kind_tree};
-ghost use Rattle.relation_terms.specs.Trees.{known};
 ghost use Rattle.relation_semantics.specs.Contexts.{KnowsTy, KnowsConst};
 ghost use Rattle.relation_semantics.specs.Errors.{IsOpaqueBeside};
 ghost use Rattle.relation_semantics.specs.Relation.{IsAlias};
 ghost use Rattle.relation_semantics.specs.Settings.{DefersAliases, LeavesOpaque};
-ghost use Rattle.relation_combining.specs.Deferring.{LeftAs, DefersConst, StandsAs};
+ghost use Rattle.relation_combining.specs.Deferring.{LeftAs, StandsAs};
 
 use crate::combine::PredicateEmittingRelation;
 use relation_semantics::infer_ctxt::InferCtxtLike;
@@ -66,10 +65,7 @@ fn is_alias(standing: Standing) -> bool
     ensures yes { (t : _) → StandsAs standing t → IsTrue result → IsAlias t }
     ensures no { (t : _) → StandsAs standing t → IsFalse result → IsAlias t → ⊥ }
 {
-    match standing {
-        Standing::Opaque | Standing::Alias => true,
-        Standing::Error | Standing::Variable | Standing::Other => false,
-    }
+    matches!(standing, Standing::Opaque | Standing::Alias)
 }
 
 // Whether the first of two that are so is an opaque type, and the second no variable.
@@ -141,33 +137,12 @@ pub(crate) fn left_to<Infcx: InferCtxtLike, R: PredicateEmittingRelation<Infcx>>
 }
 
 // Whether a constant isn't evaluated.
-fn is_unevaluated<Infcx: InferCtxtLike>(infcx: &Infcx, ct: &Const<Infcx::Interner>) -> bool
+pub(crate) fn is_unevaluated<Infcx: InferCtxtLike>(
+    infcx: &Infcx,
+    ct: &Const<Infcx::Interner>,
+) -> bool
     requires { KnowsConst (Infcx.state infcx.now) ct.now }
     ensures { IsTrue result ↔ IsAlias (((Infcx.state infcx.now).meaning).const_ ct.now) }
 {
-    match infcx.cx().const_kind(ct) {
-        ConstKind::Unevaluated(_) => true,
-        _ => false,
-    }
-}
-
-// Whether one of two constants that are no variables is left to a goal.
-pub(crate) fn defers_const<Infcx: InferCtxtLike, R: PredicateEmittingRelation<Infcx>>(
-    relation: &R,
-    a: &Const<Infcx::Interner>,
-    b: &Const<Infcx::Interner>,
-) -> bool
-    requires a_known { IsTrue (known (((R.state relation.now).meaning).const_ a.now)) }
-    requires b_known { IsTrue (known (((R.state relation.now).meaning).const_ b.now)) }
-    ensures yes { IsTrue result → DefersConst (R.state relation.now) a.now b.now }
-    ensures no { IsFalse result → DefersConst (R.state relation.now) a.now b.now → ⊥ }
-{
-    if !defers_aliases::<Infcx, R>(relation) {
-        return false;
-    }
-    let infcx = relation.infcx();
-    if is_unevaluated(infcx, a) {
-        return true;
-    }
-    is_unevaluated(infcx, b)
+    matches!(infcx.cx().const_kind(ct), ConstKind::Unevaluated(_))
 }

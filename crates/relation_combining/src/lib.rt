@@ -5,4 +5,5 @@
 pub mod combine;
 mod deferring;
 mod number_vars;
+mod ty_args;
 pub mod variables;

@@ -70,10 +70,7 @@ fn is_ordinary<Infcx: InferCtxtLike>(infcx: &Infcx, ty: &Ty<Infcx::Interner>) ->
     requires { KnowsTy (Infcx.state infcx.now) ty.now }
     ensures { IsTrue result ↔ IsOrdinary ((Infcx.state infcx.now).meaning.ty ty.now) }
 {
-    match ty_standing(infcx, ty) {
-        Standing::Other => true,
-        _ => false,
-    }
+    matches!(ty_standing(infcx, ty), Standing::Other)
 }
 
 /// Whether two types of a context are ordinary: neither errors, nor variables, nor aliases. Such a pair is left to its
@@ -100,10 +97,7 @@ fn is_plain_alias<Infcx: InferCtxtLike>(infcx: &Infcx, ty: &Ty<Infcx::Interner>)
     requires { KnowsTy (Infcx.state infcx.now) ty.now }
     ensures { IsTrue result → StandsAs Alias ((Infcx.state infcx.now).meaning.ty ty.now) }
 {
-    match ty_standing(infcx, ty) {
-        Standing::Alias => true,
-        _ => false,
-    }
+    matches!(ty_standing(infcx, ty), Standing::Alias)
 }
 
 /// Whether two types are aliases that a relation leaves to their parts: no opaque types, and set up so that aliases are

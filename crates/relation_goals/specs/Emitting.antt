@@ -1,19 +1,19 @@
 -- What contracts see of a relation that registers goals, over a context.
-use Rattle.std.specs.Prelude.{◌≡◌, Bool, List, [], ◌∷◌, ◌++◌, Some, map, IsTrue, IfSome, IfOk, Result, Ok, Err}
+use Rattle.std.specs.Prelude.{◌≡◌, List, [], ◌∷◌, ◌++◌, Some, map, IsTrue, IfSome, IfOk, Result, Ok, Err}
 use Rattle.term_enums.specs.declared.Variance.{Variance}
 use Rattle.relation_terms.specs.declared.terms.keys.PredicateKey.{PredicateKey}
 use Rattle.relation_terms.specs.declared.terms.keys.RegionKey.{RegionKey}
 use Rattle.relation_terms.specs.declared.terms.keys.TyKey.{TyKey}
-use Rattle.term_enums.specs.declared.AliasRelationDirection.{AliasRelationDirection}
-use Rattle.relation_terms.specs.declared.terms.generic_arg.TermKind.{TermKind}
-use Rattle.relation_terms.specs.Meaning.{Meaning, Extends, term_tree}
-use Rattle.relation_terms.specs.Trees.{Tree, known}
+use Rattle.relation_terms.specs.declared.predicate.kinds.PredicateKind.{PredicateKind}
+use Rattle.relation_terms.specs.Meaning.{Meaning, Extends}
+use Rattle.relation_terms.specs.Predicates.{predicate_kind_tree}
+use Rattle.relation_terms.specs.Trees.{Tree, bind, known}
 use Rattle.relation_semantics.specs.Contexts.{Context}
 use Rattle.relation_semantics.specs.Constraints.{constraint_at, constraint_of}
 use Rattle.relation_semantics.specs.AliasGoals.{alias_at}
 use Rattle.relation_semantics.specs.AskedAlone.{subtype_at}
 use Rattle.relation_semantics.specs.Alphabets.{StaysBuilt}
-use Rattle.relation_semantics.specs.Goals.{Goal, goal_of, subtype_predicate, well_formed_predicate, alias_relate_predicate, ambiguous_predicate}
+use Rattle.relation_semantics.specs.Goals.{Goal, goal_of}
 use Rattle.relation_semantics.specs.Lawful.{State}
 use Rattle.relation_semantics.specs.Settings.{in_coherence}
 use Rattle.relation_semantics.specs.Steps.{AddsConstraint, IsLater}
@@ -28,6 +28,10 @@ module _ {Key Id Name : Type 0} where
   -- An interner knows a predicate.
   abbrev pub KnowsPredicate : Meaning Key Id Name → PredicateKey Key → Type 0
   KnowsPredicate m p = IsTrue (known (m.predicate p))
+
+  -- The predicate of a form under a binder of no variables.
+  abbrev pub dummy_predicate : Meaning Key Id Name → PredicateKind Key Id Name → Tree
+  dummy_predicate m k = bind [] (predicate_kind_tree m k)
 
   -- The goals of predicates in a relation's environment.
   abbrev pub goals_in : State Key Id Name → List (PredicateKey Key) → List Goal
@@ -98,33 +102,15 @@ module _ {Key Id Name : Type 0} (c d : Context Key Id Name) where
   abbrev pub RegionsStayBuilt : RegionKey Key → RegionKey Key → Type 0
   RegionsStayBuilt a b = StaysBuilt c.store d.store [] ((c.meaning).region a) ((c.meaning).region b)
 
-  -- The predicate that a type is a subtype of another was made, or that a type is well formed; or none was.
-  abbrev pub MakesSubtype : {E : Type 0} → Bool → TyKey Key → TyKey Key → Result (PredicateKey Key) E → Type 0
-  MakesSubtype a_is_expected a b result = IfOk result (λ p.
-      (d.meaning).predicate p ≡ subtype_predicate a_is_expected ((c.meaning).ty a) ((c.meaning).ty b))
-
   -- What is asked of two type variables at a variance was made, or was not.
   abbrev pub MakesSubtypeAt : {E : Type 0} → Variance → TyKey Key → TyKey Key → Result (PredicateKey Key) E → Type 0
   MakesSubtypeAt v a b result = IfOk result (λ p.
       subtype_at v ((c.meaning).ty a) ((c.meaning).ty b) ≡ Some ((d.meaning).predicate p))
 
-  -- That of two terms, one an alias, both are one or in order, was made; what is asked of two types at a variance; or that
-  -- too much was met; or none was.
-  abbrev pub MakesAliasRelate : {E : Type 0} → TermKind Key → TermKind Key → AliasRelationDirection →
-      Result (PredicateKey Key) E → Type 0
-  MakesAliasRelate a b direction result = IfOk result (λ p. (d.meaning).predicate p ≡
-      alias_relate_predicate direction (term_tree c.meaning a) (term_tree c.meaning b))
-
+  -- So it was of two types, one an alias.
   abbrev pub MakesAliasAt : {E : Type 0} → Variance → TyKey Key → TyKey Key → Result (PredicateKey Key) E → Type 0
   MakesAliasAt v a b result = IfOk result (λ p.
       alias_at v ((c.meaning).ty a) ((c.meaning).ty b) ≡ Some ((d.meaning).predicate p))
-
-  abbrev pub MakesAmbiguous : {E : Type 0} → Result (PredicateKey Key) E → Type 0
-  MakesAmbiguous result = IfOk result (λ p. (d.meaning).predicate p ≡ ambiguous_predicate)
-
-  abbrev pub MakesWellFormed : {E : Type 0} → TyKey Key → Result (PredicateKey Key) E → Type 0
-  MakesWellFormed t result =
-      IfOk result (λ p. (d.meaning).predicate p ≡ well_formed_predicate ((c.meaning).ty t))
 
 -- Whatever later context takes the place of a lawful relation's, nothing else of the relation changes.
 abbrev pub FollowsContext : {Key Id Name S I : Type 0} → (I → Context Key Id Name) → (S → State Key Id Name) →

@@ -25,7 +25,7 @@ pub use Rattle.relation_recursion.specs.PredicateForms
 pub use Rattle.context_relation.specs.RegionTerms
 pub use Rattle.context_relation.specs.Relating
 pub use Rattle.relation_steps.specs.Rounds
-pub use Rattle.context_relation.specs.SolverTerms
+pub use Rattle.context_relation.specs.SolverStates
 pub use Rattle.relation_combining.specs.Solving
 pub use Rattle.context_relation.specs.Stepping
 pub use Rattle.relation_steps.specs.Terms

@@ -10,26 +10,27 @@ use Rattle.relation_semantics.specs.Lawful.{Stepped}
 use Rattle.relation_semantics.specs.Parts.{IsFormedConst}
 use Rattle.relation_semantics.specs.Resolving.{IsShallowConst}
 use Rattle.relation_semantics.proofs.Passing.{as_err}
-use Rattle.relation_combining.specs.Combining.{MeetsConsts, const_not_left as not_left_consts}
+use Rattle.relation_combining.specs.Combining.{CanMeet, MeetsConsts, const_not_left as not_left_consts}
 use Rattle.relation_combining.specs.Solving.{solver_manner}
 use Rattle.relation_combining.proofs.Combining.{consts_later, consts_stepped, consts_met}
 use Rattle.relation_combining.proofs.DeferredPairs.{const_not_left}
+use Rattle.relation_combining.proofs.OverContext.{can_meet}
 use Rattle.relation_combining.proofs.DeferringSteps.{consts_to_goal, goal_refused}
 use Rattle.relation_steps.proofs.Sorted.{const_sorted}
 use Rattle.relation_combining.proofs.combine.combine_shallow.Goals as goal
 
-pub returns-in_err-register_const_alias-clause-stepped :
-    goal.returns-in_err-register_const_alias-clause-stepped
-returns-in_err-register_const_alias-clause-stepped g c =
+pub returns-in_err-register-clause-stepped :
+    goal.returns-in_err-register-clause-stepped
+returns-in_err-register-clause-stepped g c =
     let r = g.R.HasState.state c.args.relation.now in
-    let q = g.R.HasState.state c.register_const_alias.new.relation in
+    let q = g.R.HasState.state c.register.new.relation in
     let a = (r.meaning).const_ c.args.a.now in
     let b = (r.meaning).const_ c.args.b.now in
     let res = c.from_residual in
     subst (Stepped solver_manner IsFormedConst r q a b (q.meaning).const_)
     (sym (as_err res.result Memory res.ensures.0 res.ensures.1))
     (goal_refused IsFormedConst a b (q.meaning).const_ (alias_relate_predicate Equate a b)
-    c.in_err-register_const_alias.ensures)
+    c.in_err-register.ensures)
 
 pub returns-then-is_left_const-clause-stepped : goal.returns-then-is_left_const-clause-stepped
 returns-then-is_left_const-clause-stepped g c =
@@ -50,21 +51,13 @@ returns-then-is_left_const-clause-stepped g c =
     λ t h. subst (λ m. IsTerm const_sort (m.const_ t)) (sym o.meaning)
     (sorts t (subst (λ m. IsTrue (known (m.const_ t))) o.meaning h)) in
     consts_to_goal (alias_relate_predicate Equate ((r.meaning).const_ a) ((r.meaning).const_ b))
-    c.in_ok-register_const_alias.ensures a b k (there a k.left_known) (there b k.right_known) left.0 left.1 refl
+    c.in_ok-register.ensures a b k (there a k.left_known) (there b k.right_known) left.0 left.1 refl
 
-pub meet_consts-requires-clause-a_shallow : goal.meet_consts-requires-clause-a_shallow
-meet_consts-requires-clause-a_shallow g c =
+pub meet_consts-requires : goal.meet_consts-requires
+meet_consts-requires g c =
     let o = g.met.R.PredicateEmittingRelation.over c.args.relation.now in
-    subst (λ z. IsShallowConst (g.Infcx.InferCtxtLike.state z).store (((g.Infcx.InferCtxtLike.state z).meaning).const_
-    c.args.a.now)) (sym c.infcx_mut.ensures.value) (subst₂ (λ st m. IsShallowConst st (m.const_ c.args.a.now)) o.store
-    o.meaning c.requires.a_shallow)
-
-pub meet_consts-requires-clause-b_shallow : goal.meet_consts-requires-clause-b_shallow
-meet_consts-requires-clause-b_shallow g c =
-    let o = g.met.R.PredicateEmittingRelation.over c.args.relation.now in
-    subst (λ z. IsShallowConst (g.Infcx.InferCtxtLike.state z).store (((g.Infcx.InferCtxtLike.state z).meaning).const_
-    c.args.b.now)) (sym c.infcx_mut.ensures.value) (subst₂ (λ st m. IsShallowConst st (m.const_ c.args.b.now)) o.store
-    o.meaning c.requires.b_shallow)
+    subst (λ z. CanMeet (λ m. m.const_) IsShallowConst (g.Infcx.InferCtxtLike.state z) c.args.a.now c.args.b.now)
+    (sym c.infcx_mut.ensures.value) (can_meet (λ m. m.const_) IsShallowConst o c.args.a.now c.args.b.now c.requires)
 
 pub returns-clause-stepped : goal.returns-clause-stepped
 returns-clause-stepped g c =
@@ -187,8 +180,8 @@ returns-clause-memory g c =
     a b res c.requires.asked sorts a_shallow b_shallow left_there meets) c.requires.lawful in
     w.remembered
 
-pub returns-in_err-register_const_alias-clause-memory : goal.returns-in_err-register_const_alias-clause-memory
-returns-in_err-register_const_alias-clause-memory g c = c.in_err-register_const_alias.ensures.remembered
+pub returns-in_err-register-clause-memory : goal.returns-in_err-register-clause-memory
+returns-in_err-register-clause-memory g c = c.in_err-register.ensures.remembered
 
 pub returns-then-is_left_const-clause-memory : goal.returns-then-is_left_const-clause-memory
-returns-then-is_left_const-clause-memory g c = c.in_ok-register_const_alias.ensures.remembered
+returns-then-is_left_const-clause-memory g c = c.in_ok-register.ensures.remembered

@@ -26,8 +26,8 @@ returns-then-eq-clause-stepped g c =
     one_const_step r a b k.left_known (one_const (o.meaning ∙ of) a b (λ h i.
     (g.met.Infcx.Interner.Interner.same_const cx a b h i).0 (sym c.if-eq.ensures)) k.left_known k.right_known)
 
-pub combine_shallow-requires-clause-asked : goal.combine_shallow-requires-clause-asked
-combine_shallow-requires-clause-asked g c =
+pub combine_shallow-requires : goal.combine_shallow-requires
+combine_shallow-requires g c =
     let x = c.args.relation.now in
     let r = g.R.HasState.state x in
     let o = g.met.R.PredicateEmittingRelation.over x in
@@ -48,56 +48,14 @@ combine_shallow-requires-clause-asked g c =
     Reads m ((m.meaning).const_ b) ((m.meaning).const_ t)) c.infcx-2.ensures c.shallow_resolve_const-right.ensures.reads)
     (subst (λ z. let m = (g.Infcx.InferCtxtLike.state z) in IsShallowConst m.store ((m.meaning).const_ t)) c.infcx-2.ensures
     c.shallow_resolve_const-right.ensures.shallow) in
-    read_asked r (subst BindingsAreWellBound (sym o.store) (g.met.Infcx.InferCtxtLike.bound_by_lists y lawful)) a b l t
-    c.requires.asked left right
-
-pub combine_shallow-requires-clause-a_shallow : goal.combine_shallow-requires-clause-a_shallow
-combine_shallow-requires-clause-a_shallow g c =
-    let x = c.args.relation.now in
-    let r = g.R.HasState.state x in
-    let o = g.met.R.PredicateEmittingRelation.over x in
-    let y = g.R.PredicateEmittingRelation.context x in
-    let s = g.Infcx.InferCtxtLike.state y in
-    let a = c.args.a.now in
-    let b = c.args.b.now in
-    let cx = g.Infcx.InferCtxtLike.interner y in
-    let of = g.met.Infcx.InferCtxtLike.reads y in
-    let lawful = o.lawful c.requires.lawful in
-    let l = c.shallow_resolve_const-left.result in
-    let t = c.shallow_resolve_const-right.result in
-    let left = read_there o a l (subst (λ z. let m = (g.Infcx.InferCtxtLike.state z) in
-    Reads m ((m.meaning).const_ a) ((m.meaning).const_ l)) c.infcx.ensures c.shallow_resolve_const-left.ensures.reads)
-    (subst (λ z. let m = (g.Infcx.InferCtxtLike.state z) in IsShallowConst m.store ((m.meaning).const_ l)) c.infcx.ensures
-    c.shallow_resolve_const-left.ensures.shallow) in
-    let right = read_there o b t (subst (λ z. let m = (g.Infcx.InferCtxtLike.state z) in
-    Reads m ((m.meaning).const_ b) ((m.meaning).const_ t)) c.infcx-2.ensures c.shallow_resolve_const-right.ensures.reads)
-    (subst (λ z. let m = (g.Infcx.InferCtxtLike.state z) in IsShallowConst m.store ((m.meaning).const_ t)) c.infcx-2.ensures
-    c.shallow_resolve_const-right.ensures.shallow) in
-    left.shallow
-
-pub combine_shallow-requires-clause-b_shallow : goal.combine_shallow-requires-clause-b_shallow
-combine_shallow-requires-clause-b_shallow g c =
-    let x = c.args.relation.now in
-    let r = g.R.HasState.state x in
-    let o = g.met.R.PredicateEmittingRelation.over x in
-    let y = g.R.PredicateEmittingRelation.context x in
-    let s = g.Infcx.InferCtxtLike.state y in
-    let a = c.args.a.now in
-    let b = c.args.b.now in
-    let cx = g.Infcx.InferCtxtLike.interner y in
-    let of = g.met.Infcx.InferCtxtLike.reads y in
-    let lawful = o.lawful c.requires.lawful in
-    let l = c.shallow_resolve_const-left.result in
-    let t = c.shallow_resolve_const-right.result in
-    let left = read_there o a l (subst (λ z. let m = (g.Infcx.InferCtxtLike.state z) in
-    Reads m ((m.meaning).const_ a) ((m.meaning).const_ l)) c.infcx.ensures c.shallow_resolve_const-left.ensures.reads)
-    (subst (λ z. let m = (g.Infcx.InferCtxtLike.state z) in IsShallowConst m.store ((m.meaning).const_ l)) c.infcx.ensures
-    c.shallow_resolve_const-left.ensures.shallow) in
-    let right = read_there o b t (subst (λ z. let m = (g.Infcx.InferCtxtLike.state z) in
-    Reads m ((m.meaning).const_ b) ((m.meaning).const_ t)) c.infcx-2.ensures c.shallow_resolve_const-right.ensures.reads)
-    (subst (λ z. let m = (g.Infcx.InferCtxtLike.state z) in IsShallowConst m.store ((m.meaning).const_ t)) c.infcx-2.ensures
-    c.shallow_resolve_const-right.ensures.shallow) in
-    right.shallow
+    record {
+      lawful = c.requires.lawful;
+      decides = c.requires.decides;
+      asked = read_asked r (subst BindingsAreWellBound (sym o.store) (g.met.Infcx.InferCtxtLike.bound_by_lists y lawful)) a b
+          l t c.requires.asked left right;
+      a_shallow = left.shallow;
+      b_shallow = right.shallow;
+    }
 
 pub returns-clause-stepped : goal.returns-clause-stepped
 returns-clause-stepped g c =

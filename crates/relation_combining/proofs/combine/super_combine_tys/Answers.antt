@@ -6,12 +6,12 @@ use Rattle.relation_folds.specs.declared.error.RelateFault.TheVariants.{Memory}
 use Rattle.relation_semantics.specs.ContextCalls.{Stands}
 use Rattle.relation_semantics.specs.Resolving.{IsShallow}
 use Rattle.relation_semantics.proofs.Passing.{as_err}
-use Rattle.relation_combining.specs.Combining.{MeetsTys, left_error, right_error, not_left}
+use Rattle.relation_combining.specs.Combining.{CanMeet, MeetsTys, left_error, right_error, not_left}
 use Rattle.relation_combining.specs.Deferring.{LeftAs, StandsAs}
 use Rattle.relation_combining.proofs.Combining.{combined_later, types_stepped, types_met}
 use Rattle.relation_combining.proofs.CombiningTys.{alias_memory, stands_there, error_left, error_right, to_goal, not_to_goal, to_open, not_to_open}
 use Rattle.relation_combining.proofs.DeferredPairs.{clean}
-use Rattle.relation_combining.proofs.OverContext.{stands_grows}
+use Rattle.relation_combining.proofs.OverContext.{can_meet, stands_grows}
 use Rattle.relation_steps.proofs.Sorted.{ty_sorted}
 use Rattle.relation_combining.proofs.combine.super_combine_tys.Goals as goal
 
@@ -118,8 +118,8 @@ returns-in_err-register_alias_relate_predicate-in-ToGoal g c =
           c.in_err-register_alias_relate_predicate-in-ToGoal.ensures;
     }
 
-pub returns-in_err-register_ambiguous-in-Open : goal.returns-in_err-register_ambiguous-in-Open
-returns-in_err-register_ambiguous-in-Open g c =
+pub returns-in_err-register-in-Open : goal.returns-in_err-register-in-Open
+returns-in_err-register-in-Open g c =
     let x = c.args.relation.now in
     let r = g.R.HasState.state x in
     let o = g.met.R.PredicateEmittingRelation.over x in
@@ -142,30 +142,22 @@ returns-in_err-register_ambiguous-in-Open g c =
     let right_clean = clean c.ty_standing-right.result ((r.meaning).ty b) sr c.in_default-right.not-Error in
     let leaves = c.left_to.ensures ((r.meaning).ty a) ((r.meaning).ty b) sl sr in
     let left = subst (LeftAs r.kept.settings ((r.meaning).ty a) ((r.meaning).ty b)) c.in-Open.is leaves in
-    let from = c.from_residual-in_err-register_ambiguous-in-Open in
-    let z = not_to_open o c.requires.decides sound a b k sorts (g.R.HasState.state c.register_ambiguous.new.relation)
-    (left_clean, right_clean) (Unit {0}) OutOfMemory c.in_err-register_ambiguous-in-Open.field-0.0 from.result left
-    c.in_err-register_ambiguous-in-Open.ensures
+    let from = c.from_residual-in_err-register-in-Open in
+    let z = not_to_open o c.requires.decides sound a b k sorts (g.R.HasState.state c.register.new.relation)
+    (left_clean, right_clean) (Unit {0}) OutOfMemory c.in_err-register-in-Open.field-0.0 from.result left
+    c.in_err-register-in-Open.ensures
     (as_err from.result Memory from.ensures.0 from.ensures.1) in
     record {
       stepped = λ n m. z.0;
       combines = z.1;
-      memory = c.in_err-register_ambiguous-in-Open.ensures.remembered;
+      memory = c.in_err-register-in-Open.ensures.remembered;
     }
 
-pub meet_tys-requires-clause-a_shallow : goal.meet_tys-requires-clause-a_shallow
-meet_tys-requires-clause-a_shallow g c =
+pub meet_tys-requires : goal.meet_tys-requires
+meet_tys-requires g c =
     let o = g.met.R.PredicateEmittingRelation.over c.args.relation.now in
-    subst (λ z. IsShallow (g.Infcx.InferCtxtLike.state z).store (((g.Infcx.InferCtxtLike.state z).meaning).ty
-    c.args.a.now)) (sym c.infcx_mut.ensures.value) (subst₂ (λ st m. IsShallow st (m.ty c.args.a.now)) o.store o.meaning
-    c.requires.a_shallow)
-
-pub meet_tys-requires-clause-b_shallow : goal.meet_tys-requires-clause-b_shallow
-meet_tys-requires-clause-b_shallow g c =
-    let o = g.met.R.PredicateEmittingRelation.over c.args.relation.now in
-    subst (λ z. IsShallow (g.Infcx.InferCtxtLike.state z).store (((g.Infcx.InferCtxtLike.state z).meaning).ty
-    c.args.b.now)) (sym c.infcx_mut.ensures.value) (subst₂ (λ st m. IsShallow st (m.ty c.args.b.now)) o.store o.meaning
-    c.requires.b_shallow)
+    subst (λ z. CanMeet (λ m. m.ty) IsShallow (g.Infcx.InferCtxtLike.state z) c.args.a.now c.args.b.now)
+    (sym c.infcx_mut.ensures.value) (can_meet (λ m. m.ty) IsShallow o c.args.a.now c.args.b.now c.requires)
 
 pub returns-in_ok-register_alias_relate_predicate-in-ToGoal :
     goal.returns-in_ok-register_alias_relate_predicate-in-ToGoal
@@ -202,8 +194,8 @@ returns-in_ok-register_alias_relate_predicate-in-ToGoal g c =
           c.in_ok-register_alias_relate_predicate-in-ToGoal.ensures;
     }
 
-pub returns-in_ok-register_ambiguous-in-Open : goal.returns-in_ok-register_ambiguous-in-Open
-returns-in_ok-register_ambiguous-in-Open g c =
+pub returns-in_ok-register-in-Open : goal.returns-in_ok-register-in-Open
+returns-in_ok-register-in-Open g c =
     let x = c.args.relation.now in
     let r = g.R.HasState.state x in
     let o = g.met.R.PredicateEmittingRelation.over x in
@@ -226,13 +218,13 @@ returns-in_ok-register_ambiguous-in-Open g c =
     let right_clean = clean c.ty_standing-right.result ((r.meaning).ty b) sr c.in_default-right.not-Error in
     let leaves = c.left_to.ensures ((r.meaning).ty a) ((r.meaning).ty b) sl sr in
     let left = subst (LeftAs r.kept.settings ((r.meaning).ty a) ((r.meaning).ty b)) c.in-Open.is leaves in
-    let z = to_open o c.requires.decides sound a b k sorts (g.R.HasState.state c.register_ambiguous.new.relation)
-    (left_clean, right_clean) (Unit {0}) OutOfMemory c.in_ok-register_ambiguous-in-Open.field-0 left
-    c.in_ok-register_ambiguous-in-Open.ensures in
+    let z = to_open o c.requires.decides sound a b k sorts (g.R.HasState.state c.register.new.relation)
+    (left_clean, right_clean) (Unit {0}) OutOfMemory c.in_ok-register-in-Open.field-0 left
+    c.in_ok-register-in-Open.ensures in
     record {
       stepped = λ n m. z.0;
       combines = z.1;
-      memory = c.in_ok-register_ambiguous-in-Open.ensures.remembered;
+      memory = c.in_ok-register-in-Open.ensures.remembered;
     }
 
 pub returns-in-ToNone : goal.returns-in-ToNone

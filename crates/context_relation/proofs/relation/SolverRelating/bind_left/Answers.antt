@@ -8,6 +8,8 @@ use Rattle.relation_folds.specs.declared.error.RelateFault.TheVariants.{Memory}
 use Rattle.relation_semantics.specs.declared.relate.Step.TheVariants.{Done, Again}
 use Rattle.relation_semantics.specs.AliasGoals.{alias_at}
 use Rattle.relation_semantics.specs.Parts.{IsRigid}
+use Rattle.relation_semantics.proofs.AliasSteps.{shallow_free}
+use Rattle.relation_combining.proofs.Shallowly.{variable_made}
 use Rattle.relation_semantics.specs.Lawful.{Stepped, items_of}
 use Rattle.relation_semantics.proofs.Passing.{as_err}
 use Rattle.relation_semantics.proofs.Registered.{goals_stay}
@@ -26,20 +28,20 @@ pub returns-in_err-bound-clause-stepped : goal.returns-in_err-bound-clause-stepp
 returns-in_err-bound-clause-stepped g c =
     let r = c.args.self.now in
     let s = g.Infcx.InferCtxtLike.state r.infcx.now in
-    let sound = g.met.Infcx.InferCtxtLike.sound r.infcx.now c.requires.lawful.0.0 in
+    let sound = g.met.Infcx.InferCtxtLike.sound r.infcx.now c.requires.can.lawful.0.0 in
     let d = g.Infcx.InferCtxtLike.state c.instantiate_ty_var_raw.new.self in
     let f = c.in_err-bound.field-0.0 in
     let h = c.in_err-bound.ensures in
     let n = c.args.x.0 in
     let is = c.requires.a_is in
     let t = (s.meaning).ty c.args.b.now in
-    let other = type_comes_to_none s.store t n c.requires.b_shallow c.requires.b_is in
+    let other = type_comes_to_none s.store t n c.requires.can.b_shallow c.requires.b_is in
     let was = solving_through r.structurally_relate_aliases r.infcx.ghost_name r.cache.pairs.kept r.goals.items s r.ambient_variance r.param_env in
     let then = solving (held_by r.structurally_relate_aliases r.infcx.ghost_name r.cache.pairs.kept s) r.goals.items d.meaning d.store d.lawful r.ambient_variance r.param_env in
     let later = refused_later r.structurally_relate_aliases s d sound type_var tt n t r.ambient_variance (λ m. m.ty) CyclicTy other f
     h.instantiates in
     let still = still_lawful (held_grows r.structurally_relate_aliases r.infcx.ghost_name r.cache.pairs.kept s d h.grows) r.goals.items s.store d.store
-    r.ambient_variance r.param_env h.grows.extends c.requires.lawful.1 h.grows.lawful later in
+    r.ambient_variance r.param_env h.grows.extends c.requires.can.lawful.1 h.grows.lawful later in
     subst (λ res. Stepped solver_manner IsRigid (solving_through r.structurally_relate_aliases r.infcx.ghost_name r.cache.pairs.kept r.goals.items s r.ambient_variance r.param_env)
     (solving_through r.structurally_relate_aliases r.infcx.ghost_name r.cache.pairs.kept r.goals.items d r.ambient_variance r.param_env)
     ((s.meaning).ty c.args.a.now) ((s.meaning).ty c.args.b.now) (d.meaning).ty res)
@@ -48,11 +50,14 @@ returns-in_err-bound-clause-stepped g c =
     (solving_through r.structurally_relate_aliases r.infcx.ghost_name r.cache.pairs.kept r.goals.items d r.ambient_variance r.param_env) l t
     (d.meaning).ty (Err f)) (sym is)
     (as_solving (held_grows r.structurally_relate_aliases r.infcx.ghost_name r.cache.pairs.kept s d h.grows) r.goals.items s.store d.store s.lawful d.lawful r.ambient_variance r.param_env h.grows.extends
-    c.requires.lawful.1 (λ q. Stepped solver_manner IsRigid
+    c.requires.can.lawful.1 (λ q. Stepped solver_manner IsRigid
     (solving_through r.structurally_relate_aliases r.infcx.ghost_name r.cache.pairs.kept r.goals.items s r.ambient_variance r.param_env) q (leaf (variable type_var n)) t (d.meaning).ty
     (Err f)) (left_refused (solving_through r.structurally_relate_aliases r.infcx.ghost_name r.cache.pairs.kept r.goals.items s r.ambient_variance r.param_env)
     was.lawful then.lawful
-    still IsRigid s d h.grows.extends c.requires.decides sound type_var tt n t c.requires.a_unresolved other (λ m. m.ty) CyclicTy r.ambient_variance
+    still IsRigid s d h.grows.extends c.requires.can.decides sound type_var tt n t (
+      variable_made s.store type_var n ((s.meaning).ty c.args.a.now) c.requires.a_is c.requires.can.asked.left_in,
+      shallow_free s.store type_var n ((s.meaning).ty c.args.a.now) c.requires.a_is c.requires.can.a_shallow,
+    ) other (λ m. m.ty) CyclicTy r.ambient_variance
     (d.meaning).ty (λ o z i x. cycle_error d.meaning r.structurally_relate_aliases s.store d.store n t sound o z i other x) f h.instantiates)))
 
 pub returns-in_err-bound-clause-combines : goal.returns-in_err-bound-clause-combines
@@ -66,7 +71,7 @@ returns-in_err-bound-clause-combines g c =
     left_not_bound n f c.requires.a_is c.requires.b_is
     (record {
       instantiated = h.instantiates;
-      goals = goals_stay h.grows.extends r.goals.items c.requires.lawful.1.1;
+      goals = goals_stay h.grows.extends r.goals.items c.requires.can.lawful.1.1;
     })
     (as_err c.from_residual.result f c.from_residual.ensures.0 c.from_residual.ensures.1)
 
@@ -77,9 +82,9 @@ returns-in_err-register_alias_relate_predicate-clause-stepped g c =
     let s = g.Infcx.InferCtxtLike.state r.infcx.now in
     let cx = g.Infcx.InferCtxtLike.interner r.infcx.now in
     let of = g.met.Infcx.InferCtxtLike.reads r.infcx.now in
-    let sound = g.met.Infcx.InferCtxtLike.sound r.infcx.now c.requires.lawful.0.0 in
-    let k = c.requires.asked in
-    let env : KnowsGoals s.meaning r.param_env r.goals.items = c.requires.lawful.1 in
+    let sound = g.met.Infcx.InferCtxtLike.sound r.infcx.now c.requires.can.lawful.0.0 in
+    let k = c.requires.can.asked in
+    let env : KnowsGoals s.meaning r.param_env r.goals.items = c.requires.can.lawful.1 in
     let d = g.Infcx.InferCtxtLike.state c.instantiate_ty_var_raw.new.self in
     let h = c.instantiate_ty_var_raw.ensures in
     let held = held_grows r.structurally_relate_aliases r.infcx.ghost_name r.cache.pairs.kept s d h.grows in
@@ -97,15 +102,15 @@ returns-in_err-register_alias_relate_predicate-clause-stepped g c =
     let t_stays : (d.meaning).ty c.args.b.now ≡ t = h.grows.extends.ty c.args.b.now k.right_known in
     let sorted = ty_sorted of c.args.b.now ((g.met.Infcx.Interner.Interner.sorted cx).ty c.args.b.now) k.right_known in
     let later = bound_later r.structurally_relate_aliases s d sound type_var tt n t r.ambient_variance
-    (g.met.Infcx.InferCtxtLike.numbers r.infcx.now c.requires.lawful.0.0) u k.right_in sorted i.1 in
+    (g.met.Infcx.InferCtxtLike.numbers r.infcx.now c.requires.can.lawful.0.0) u k.right_in sorted i.1 in
     let still = still_lawful held r.goals.items s.store d.store r.ambient_variance r.param_env h.grows.extends env h.grows.lawful later in
     let j = c.register_alias_relate_predicate.new.self in
     let e = g.Infcx.InferCtxtLike.state j.infcx.now in
     let p = solving_through j.structurally_relate_aliases j.infcx.ghost_name j.cache.pairs.kept j.goals.items e j.ambient_variance j.param_env in
     let reg = c.in_err-register_alias_relate_predicate.ensures in
-    let asked = alias_is_asked r.ambient_variance u t c.requires.decides in
+    let asked = alias_is_asked r.ambient_variance u t c.requires.can.decides in
     let came = came_of_alias r.structurally_relate_aliases (items_of s.meaning) s.store d.store r.ambient_variance n m t u i.1
-    u_is c.requires.b_shallow c.requires.b_is in
+    u_is c.requires.can.b_shallow c.requires.b_is in
     let there = subst (λ o. IfSome o (λ w. RegistersGoal {A = Unit {0}} {F = OutOfMemory} (solving_through r.structurally_relate_aliases r.infcx.ghost_name r.cache.pairs.kept r.goals.items d r.ambient_variance r.param_env) p w (Err c.in_err-register_alias_relate_predicate.field-0.0))) asked.1
     (subst (λ y. IfSome (alias_at r.ambient_variance u y) (λ w. RegistersGoal {A = Unit {0}} {F = OutOfMemory} (solving_through r.structurally_relate_aliases r.infcx.ghost_name r.cache.pairs.kept r.goals.items d r.ambient_variance r.param_env) p w (Err c.in_err-register_alias_relate_predicate.field-0.0))) t_stays reg) in
     let made = from_solving held r.goals.items s.store d.store s.lawful d.lawful r.ambient_variance r.param_env
@@ -113,7 +118,7 @@ returns-in_err-register_alias_relate_predicate-clause-stepped g c =
     let from = c.from_residual-in_err-register_alias_relate_predicate in
     let is = as_err from.result Memory from.ensures.0 from.ensures.1 in
     subst₂ (λ l res. Stepped solver_manner IsRigid was p l t (e.meaning).ty res) (sym c.requires.a_is) (sym is)
-    (left_unasked_step was L K still s d h.grows.extends sound (g.met.Infcx.InferCtxtLike.numbers r.infcx.now c.requires.lawful.0.0)
+    (left_unasked_step was L K still s d h.grows.extends sound (g.met.Infcx.InferCtxtLike.numbers r.infcx.now c.requires.can.lawful.0.0)
     (g.met.Infcx.InferCtxtLike.bound_by_lists c.instantiate_ty_var_raw.new.self h.grows.lawful) n m t u k.right_taken.1 k.right_in
     k.right_known (ty_sorted of c.args.b.now ((g.met.Infcx.Interner.Interner.sorted cx).ty c.args.b.now) k.right_known)
     r.ambient_variance (λ e. e) i.0 i.1 u_is came.0 came.1 p asked.0 made IsRigid (e.meaning).ty)
@@ -123,8 +128,8 @@ pub returns-in_err-register_alias_relate_predicate-clause-combines :
 returns-in_err-register_alias_relate_predicate-clause-combines g c =
     let r = c.args.self.now in
     let s = g.Infcx.InferCtxtLike.state r.infcx.now in
-    let k = c.requires.asked in
-    let env : KnowsGoals s.meaning r.param_env r.goals.items = c.requires.lawful.1 in
+    let k = c.requires.can.asked in
+    let env : KnowsGoals s.meaning r.param_env r.goals.items = c.requires.can.lawful.1 in
     let d = g.Infcx.InferCtxtLike.state c.instantiate_ty_var_raw.new.self in
     let h = c.instantiate_ty_var_raw.ensures in
     let held = held_grows r.structurally_relate_aliases r.infcx.ghost_name r.cache.pairs.kept s d h.grows in
@@ -140,9 +145,9 @@ returns-in_err-register_alias_relate_predicate-clause-combines g c =
     let e = g.Infcx.InferCtxtLike.state j.infcx.now in
     let p = solving_through j.structurally_relate_aliases j.infcx.ghost_name j.cache.pairs.kept j.goals.items e j.ambient_variance j.param_env in
     let reg = c.in_err-register_alias_relate_predicate.ensures in
-    let asked = alias_is_asked r.ambient_variance u t c.requires.decides in
+    let asked = alias_is_asked r.ambient_variance u t c.requires.can.decides in
     let came = came_of_alias r.structurally_relate_aliases (items_of s.meaning) s.store d.store r.ambient_variance n m t u i.1
-    u_is c.requires.b_shallow c.requires.b_is in
+    u_is c.requires.can.b_shallow c.requires.b_is in
     let there = subst (λ o. IfSome o (λ w. RegistersGoal {A = Unit {0}} {F = OutOfMemory} (solving_through r.structurally_relate_aliases r.infcx.ghost_name r.cache.pairs.kept r.goals.items d r.ambient_variance r.param_env) p w (Err c.in_err-register_alias_relate_predicate.field-0.0))) asked.1
     (subst (λ y. IfSome (alias_at r.ambient_variance u y) (λ w. RegistersGoal {A = Unit {0}} {F = OutOfMemory} (solving_through r.structurally_relate_aliases r.infcx.ghost_name r.cache.pairs.kept r.goals.items d r.ambient_variance r.param_env) p w (Err c.in_err-register_alias_relate_predicate.field-0.0))) t_stays reg) in
     let made = from_solving held r.goals.items s.store d.store s.lawful d.lawful r.ambient_variance r.param_env
@@ -162,9 +167,9 @@ returns-in-Some-clause-stepped g c =
     let s = g.Infcx.InferCtxtLike.state r.infcx.now in
     let cx = g.Infcx.InferCtxtLike.interner r.infcx.now in
     let of = g.met.Infcx.InferCtxtLike.reads r.infcx.now in
-    let sound = g.met.Infcx.InferCtxtLike.sound r.infcx.now c.requires.lawful.0.0 in
-    let k = c.requires.asked in
-    let env : KnowsGoals s.meaning r.param_env r.goals.items = c.requires.lawful.1 in
+    let sound = g.met.Infcx.InferCtxtLike.sound r.infcx.now c.requires.can.lawful.0.0 in
+    let k = c.requires.can.asked in
+    let env : KnowsGoals s.meaning r.param_env r.goals.items = c.requires.can.lawful.1 in
     let d = g.Infcx.InferCtxtLike.state c.instantiate_ty_var_raw.new.self in
     let h = c.instantiate_ty_var_raw.ensures in
     let held = held_grows r.structurally_relate_aliases r.infcx.ghost_name r.cache.pairs.kept s d h.grows in
@@ -182,21 +187,21 @@ returns-in-Some-clause-stepped g c =
     let t_stays : (d.meaning).ty c.args.b.now ≡ t = h.grows.extends.ty c.args.b.now k.right_known in
     let sorted = ty_sorted of c.args.b.now ((g.met.Infcx.Interner.Interner.sorted cx).ty c.args.b.now) k.right_known in
     let later = bound_later r.structurally_relate_aliases s d sound type_var tt n t r.ambient_variance
-    (g.met.Infcx.InferCtxtLike.numbers r.infcx.now c.requires.lawful.0.0) u k.right_in sorted i.1 in
+    (g.met.Infcx.InferCtxtLike.numbers r.infcx.now c.requires.can.lawful.0.0) u k.right_in sorted i.1 in
     let still = still_lawful held r.goals.items s.store d.store r.ambient_variance r.param_env h.grows.extends env h.grows.lawful later in
     let j = c.register_alias_relate_predicate.new.self in
     let e = g.Infcx.InferCtxtLike.state j.infcx.now in
     let p = solving_through j.structurally_relate_aliases j.infcx.ghost_name j.cache.pairs.kept j.goals.items e j.ambient_variance j.param_env in
     let reg = c.in_ok-register_alias_relate_predicate.ensures in
-    let asked = alias_is_asked r.ambient_variance u t c.requires.decides in
+    let asked = alias_is_asked r.ambient_variance u t c.requires.can.decides in
     let came = came_of_alias r.structurally_relate_aliases (items_of s.meaning) s.store d.store r.ambient_variance n m t u i.1
-    u_is c.requires.b_shallow c.requires.b_is in
+    u_is c.requires.can.b_shallow c.requires.b_is in
     let there = subst (λ o. IfSome o (λ w. RegistersGoal {A = Unit {0}} {F = OutOfMemory} (solving_through r.structurally_relate_aliases r.infcx.ghost_name r.cache.pairs.kept r.goals.items d r.ambient_variance r.param_env) p w (Ok tt))) asked.1
     (subst (λ y. IfSome (alias_at r.ambient_variance u y) (λ w. RegistersGoal {A = Unit {0}} {F = OutOfMemory} (solving_through r.structurally_relate_aliases r.infcx.ghost_name r.cache.pairs.kept r.goals.items d r.ambient_variance r.param_env) p w (Ok tt))) t_stays reg) in
     let made = from_solving held r.goals.items s.store d.store s.lawful d.lawful r.ambient_variance r.param_env
     h.grows.extends env (λ y. RegistersGoal {A = Unit {0}} {F = OutOfMemory} y p asked.0 (Ok tt)) there in
     subst (λ l. Stepped solver_manner IsRigid was p l t (e.meaning).ty (Ok (Done c.args.a.now)))
-    (sym c.requires.a_is) (left_asks was L K still s d h.grows.extends sound (g.met.Infcx.InferCtxtLike.numbers r.infcx.now c.requires.lawful.0.0)
+    (sym c.requires.a_is) (left_asks was L K still s d h.grows.extends sound (g.met.Infcx.InferCtxtLike.numbers r.infcx.now c.requires.can.lawful.0.0)
     (g.met.Infcx.InferCtxtLike.bound_by_lists c.instantiate_ty_var_raw.new.self h.grows.lawful) n m t u k.right_taken.1 k.right_in
     k.right_known (ty_sorted of c.args.b.now ((g.met.Infcx.Interner.Interner.sorted cx).ty c.args.b.now) k.right_known)
     r.ambient_variance (λ e. e) i.0 i.1 u_is came.0 came.1 p asked.0 made IsRigid (e.meaning).ty c.args.a.now asked.1
@@ -206,8 +211,8 @@ pub returns-in-Some-clause-combines : goal.returns-in-Some-clause-combines
 returns-in-Some-clause-combines g c =
     let r = c.args.self.now in
     let s = g.Infcx.InferCtxtLike.state r.infcx.now in
-    let k = c.requires.asked in
-    let env : KnowsGoals s.meaning r.param_env r.goals.items = c.requires.lawful.1 in
+    let k = c.requires.can.asked in
+    let env : KnowsGoals s.meaning r.param_env r.goals.items = c.requires.can.lawful.1 in
     let d = g.Infcx.InferCtxtLike.state c.instantiate_ty_var_raw.new.self in
     let h = c.instantiate_ty_var_raw.ensures in
     let held = held_grows r.structurally_relate_aliases r.infcx.ghost_name r.cache.pairs.kept s d h.grows in
@@ -223,9 +228,9 @@ returns-in-Some-clause-combines g c =
     let e = g.Infcx.InferCtxtLike.state j.infcx.now in
     let p = solving_through j.structurally_relate_aliases j.infcx.ghost_name j.cache.pairs.kept j.goals.items e j.ambient_variance j.param_env in
     let reg = c.in_ok-register_alias_relate_predicate.ensures in
-    let asked = alias_is_asked r.ambient_variance u t c.requires.decides in
+    let asked = alias_is_asked r.ambient_variance u t c.requires.can.decides in
     let came = came_of_alias r.structurally_relate_aliases (items_of s.meaning) s.store d.store r.ambient_variance n m t u i.1
-    u_is c.requires.b_shallow c.requires.b_is in
+    u_is c.requires.can.b_shallow c.requires.b_is in
     let there = subst (λ o. IfSome o (λ w. RegistersGoal {A = Unit {0}} {F = OutOfMemory} (solving_through r.structurally_relate_aliases r.infcx.ghost_name r.cache.pairs.kept r.goals.items d r.ambient_variance r.param_env) p w (Ok tt))) asked.1
     (subst (λ y. IfSome (alias_at r.ambient_variance u y) (λ w. RegistersGoal {A = Unit {0}} {F = OutOfMemory} (solving_through r.structurally_relate_aliases r.infcx.ghost_name r.cache.pairs.kept r.goals.items d r.ambient_variance r.param_env) p w (Ok tt))) t_stays reg) in
     let made = from_solving held r.goals.items s.store d.store s.lawful d.lawful r.ambient_variance r.param_env
@@ -244,8 +249,8 @@ returns-clause-stepped g c =
     let s = g.Infcx.InferCtxtLike.state r.infcx.now in
     let cx = g.Infcx.InferCtxtLike.interner r.infcx.now in
     let of = g.met.Infcx.InferCtxtLike.reads r.infcx.now in
-    let sound = g.met.Infcx.InferCtxtLike.sound r.infcx.now c.requires.lawful.0.0 in
-    let k = c.requires.asked in
+    let sound = g.met.Infcx.InferCtxtLike.sound r.infcx.now c.requires.can.lawful.0.0 in
+    let k = c.requires.can.asked in
     let q = c.instantiate_ty_var_raw.new.self in
     let d = g.Infcx.InferCtxtLike.state q in
     let z = c.in_ok-bound.bound in
@@ -261,21 +266,21 @@ returns-clause-stepped g c =
     let then = solving (held_by r.structurally_relate_aliases r.infcx.ghost_name r.cache.pairs.kept s) r.goals.items d.meaning d.store d.lawful r.ambient_variance r.param_env in
     let sorted = ty_sorted of c.args.b.now ((g.met.Infcx.Interner.Interner.sorted cx).ty c.args.b.now) k.right_known in
     let later = bound_later r.structurally_relate_aliases s d sound type_var tt n t r.ambient_variance
-    (g.met.Infcx.InferCtxtLike.numbers r.infcx.now c.requires.lawful.0.0) ((d.meaning).ty z) k.right_in sorted h.instantiates.1 in
+    (g.met.Infcx.InferCtxtLike.numbers r.infcx.now c.requires.can.lawful.0.0) ((d.meaning).ty z) k.right_in sorted h.instantiates.1 in
     let still = still_lawful (held_grows r.structurally_relate_aliases r.infcx.ghost_name r.cache.pairs.kept s d h.grows) r.goals.items s.store d.store
-    r.ambient_variance r.param_env grown c.requires.lawful.1 h.grows.lawful later in
+    r.ambient_variance r.param_env grown c.requires.can.lawful.1 h.grows.lawful later in
     subst (λ x. Stepped solver_manner IsRigid was (solving_through r.structurally_relate_aliases r.infcx.ghost_name r.cache.pairs.kept r.goals.items d r.ambient_variance r.param_env)
-    ((s.meaning).ty c.args.a.now) t (d.meaning).ty (Ok x)) (sym c.behind_left_binding.ensures)
+    ((s.meaning).ty c.args.a.now) t (d.meaning).ty (Ok x)) (sym refl)
     (subst (λ l. Stepped solver_manner IsRigid (solving_through r.structurally_relate_aliases r.infcx.ghost_name r.cache.pairs.kept r.goals.items s r.ambient_variance r.param_env)
     (solving_through r.structurally_relate_aliases r.infcx.ghost_name r.cache.pairs.kept r.goals.items d r.ambient_variance r.param_env) l t
     (d.meaning).ty (Ok (Again c.args.a.now c.args.b.now z c.args.b.now Covariant c.args.a.now))) (sym is)
     (as_solving (held_grows r.structurally_relate_aliases r.infcx.ghost_name r.cache.pairs.kept s d h.grows) r.goals.items s.store d.store s.lawful d.lawful r.ambient_variance r.param_env grown
-    c.requires.lawful.1 (λ q. Stepped solver_manner IsRigid
+    c.requires.can.lawful.1 (λ q. Stepped solver_manner IsRigid
     (solving_through r.structurally_relate_aliases r.infcx.ghost_name r.cache.pairs.kept r.goals.items s r.ambient_variance r.param_env) q (leaf (variable type_var n)) t (d.meaning).ty
     (Ok (Again c.args.a.now c.args.b.now z c.args.b.now Covariant c.args.a.now))) (left_step (solving_through r.structurally_relate_aliases r.infcx.ghost_name r.cache.pairs.kept r.goals.items s r.ambient_variance r.param_env)
     was.lawful then.lawful
     still type_var tt s d grown sound
-    (g.met.Infcx.InferCtxtLike.numbers r.infcx.now c.requires.lawful.0.0)
+    (g.met.Infcx.InferCtxtLike.numbers r.infcx.now c.requires.can.lawful.0.0)
     (g.met.Infcx.InferCtxtLike.bound_by_lists q h.grows.lawful) n t ((d.meaning).ty z) k.right_taken.1 k.right_in
     k.right_known (ty_sorted of c.args.b.now ((g.met.Infcx.Interner.Interner.sorted cx).ty c.args.b.now) k.right_known)
     r.ambient_variance (λ e. e) h.instantiates.0 h.instantiates.1 IsRigid c.args.a.now c.args.b.now z
@@ -292,9 +297,9 @@ returns-clause-combines g c =
     left_bound n z c.requires.a_is c.requires.b_is
     (record {
       instantiated = h.instantiates;
-      goals = goals_stay h.grows.extends r.goals.items c.requires.lawful.1.1;
+      goals = goals_stay h.grows.extends r.goals.items c.requires.can.lawful.1.1;
     })
-    c.in_default.ensures.is_none (ap Ok c.behind_left_binding.ensures)
+    c.in_default.ensures.is_none refl
 
 pub register_alias_relate_predicate-requires-clause-lawful : goal.register_alias_relate_predicate-requires-clause-lawful
 register_alias_relate_predicate-requires-clause-lawful g c =
@@ -302,15 +307,24 @@ register_alias_relate_predicate-requires-clause-lawful g c =
     let s = g.Infcx.InferCtxtLike.state r.infcx.now in
     let cx = g.Infcx.InferCtxtLike.interner r.infcx.now in
     let of = g.met.Infcx.InferCtxtLike.reads r.infcx.now in
-    let sound = g.met.Infcx.InferCtxtLike.sound r.infcx.now c.requires.lawful.0.0 in
-    let k = c.requires.asked in
+    let sound = g.met.Infcx.InferCtxtLike.sound r.infcx.now c.requires.can.lawful.0.0 in
+    let k = c.requires.can.asked in
     let d = g.Infcx.InferCtxtLike.state c.instantiate_ty_var_raw.new.self in
     let n = c.args.x.0 in
     let t = (s.meaning).ty c.args.b.now in
     let z = c.in_ok-bound.bound in
     let sorted = ty_sorted of c.args.b.now ((g.met.Infcx.Interner.Interner.sorted cx).ty c.args.b.now) k.right_known in
     let later = bound_later r.structurally_relate_aliases s d sound type_var tt n t r.ambient_variance
-    (g.met.Infcx.InferCtxtLike.numbers r.infcx.now c.requires.lawful.0.0) ((d.meaning).ty z) k.right_in sorted
+    (g.met.Infcx.InferCtxtLike.numbers r.infcx.now c.requires.can.lawful.0.0) ((d.meaning).ty z) k.right_in sorted
     c.in_ok-bound.ensures.instantiates.1 in
     (solver_with r.structurally_relate_aliases r.infcx.ghost_name r.cache.pairs.kept r.goals.items s d c.in_ok-bound.ensures.grows later
-    r.ambient_variance r.param_env c.requires.lawful.1).lawful c.requires.lawful
+    r.ambient_variance r.param_env c.requires.can.lawful.1).lawful c.requires.can.lawful
+
+pub instantiate_ty_var_raw-requires-clause-target_unresolved : goal.instantiate_ty_var_raw-requires-clause-target_unresolved
+instantiate_ty_var_raw-requires-clause-target_unresolved g c =
+    let s = g.Infcx.InferCtxtLike.state c.args.self.now.infcx.now in
+    let t = (s.meaning).ty c.args.a.now in
+    let k = c.requires.can in (
+      variable_made s.store type_var c.args.x.0 t c.requires.a_is k.asked.left_in,
+      shallow_free s.store type_var c.args.x.0 t c.requires.a_is k.a_shallow,
+    )

@@ -1,44 +1,5 @@
-use Rattle.relation_terms.specs.Heads.{type_var}
 use Rattle.context_relation.specs.Stepping.{two_variables, no_ty_variables}
-use Rattle.relation_combining.proofs.Shallowly.{variable_made}
 use Rattle.context_relation.proofs.relation.SolverRelating.combine_tys.Goals as goal
-use Rattle.relation_semantics.proofs.AliasSteps.{shallow_free}
-
-pub combine_ty_vars-requires-clause-a_unresolved : goal.combine_ty_vars-requires-clause-a_unresolved
-combine_ty_vars-requires-clause-a_unresolved g c =
-    let r = c.args.self.now in
-    let s = g.Infcx.InferCtxtLike.state r.infcx.now in
-    let k = c.requires.asked in (
-      variable_made s.store type_var c.in-Some.x.0 ((s.meaning).ty c.args.a.now) c.in-Some.ensures.is k.left_in,
-      shallow_free s.store type_var c.in-Some.x.0 ((s.meaning).ty c.args.a.now) c.in-Some.ensures.is c.requires.a_shallow,
-    )
-
-pub combine_ty_vars-requires-clause-b_unresolved : goal.combine_ty_vars-requires-clause-b_unresolved
-combine_ty_vars-requires-clause-b_unresolved g c =
-    let r = c.args.self.now in
-    let s = g.Infcx.InferCtxtLike.state r.infcx.now in
-    let k = c.requires.asked in (
-      variable_made s.store type_var c.in-Some-ty_var.y.0 ((s.meaning).ty c.args.b.now) c.in-Some-ty_var.ensures.is k.right_in,
-      shallow_free s.store type_var c.in-Some-ty_var.y.0 ((s.meaning).ty c.args.b.now) c.in-Some-ty_var.ensures.is c.requires.b_shallow,
-    )
-
-pub bind_left-requires-clause-a_unresolved : goal.bind_left-requires-clause-a_unresolved
-bind_left-requires-clause-a_unresolved g c =
-    let r = c.args.self.now in
-    let s = g.Infcx.InferCtxtLike.state r.infcx.now in
-    let k = c.requires.asked in (
-      variable_made s.store type_var c.in-Some.x.0 ((s.meaning).ty c.args.a.now) c.in-Some.ensures.is k.left_in,
-      shallow_free s.store type_var c.in-Some.x.0 ((s.meaning).ty c.args.a.now) c.in-Some.ensures.is c.requires.a_shallow,
-    )
-
-pub bind_right-requires-clause-b_unresolved : goal.bind_right-requires-clause-b_unresolved
-bind_right-requires-clause-b_unresolved g c =
-    let r = c.args.self.now in
-    let s = g.Infcx.InferCtxtLike.state r.infcx.now in
-    let k = c.requires.asked in (
-      variable_made s.store type_var c.in-Some-ty_var-2.y.0 ((s.meaning).ty c.args.b.now) c.in-Some-ty_var-2.ensures.is k.right_in,
-      shallow_free s.store type_var c.in-Some-ty_var-2.y.0 ((s.meaning).ty c.args.b.now) c.in-Some-ty_var-2.ensures.is c.requires.b_shallow,
-    )
 
 pub returns-in-Some-ty_var-clause-combines : goal.returns-in-Some-ty_var-clause-combines
 returns-in-Some-ty_var-clause-combines g c = two_variables c.in-Some.x.0 c.in-Some-ty_var.y.0 c.in-Some.ensures.is

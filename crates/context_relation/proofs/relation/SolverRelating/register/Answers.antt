@@ -1,4 +1,4 @@
-use Rattle.std.proofs.Common.{ap, ◌∙◌, [], ◌∷◌, ◌++◌}
+use Rattle.std.proofs.Common.{[], ◌∷◌}
 use Rattle.relation_goals.specs.Emitting.{goals_in}
 use Rattle.relation_combining.specs.Solving.{held_by, solving_through}
 use Rattle.context_relation.proofs.EmittedGoals.{goal_added, none_added}
@@ -10,7 +10,7 @@ returns-in_err-push g c =
     let s = g.Infcx.InferCtxtLike.state r.infcx.now in
     none_added s.meaning (held_by r.structurally_relate_aliases r.infcx.ghost_name r.cache.pairs.kept s) r.goals.items c.push.new.self.items s.store
     s.lawful r.ambient_variance r.param_env c.in_err-push.ensures.items
-    (goals_in (solving_through r.structurally_relate_aliases r.infcx.ghost_name r.cache.pairs.kept r.goals.items s r.ambient_variance r.param_env) (c.args.goal.predicate ∷ []))
+    (goals_in (solving_through r.structurally_relate_aliases r.infcx.ghost_name r.cache.pairs.kept r.goals.items s r.ambient_variance r.param_env) (c.args.predicate ∷ []))
     c.from_residual.result c.from_residual.ensures.0
 
 pub returns : goal.returns
@@ -18,6 +18,6 @@ returns g c =
     let r = c.args.self.now in
     let s = g.Infcx.InferCtxtLike.state r.infcx.now in
     goal_added s.meaning (held_by r.structurally_relate_aliases r.infcx.ghost_name r.cache.pairs.kept s) r.goals.items c.push.new.self.items
-    s.store s.lawful r.ambient_variance r.param_env c.args.goal.predicate
-    (c.in_ok-push.ensures.items ∙ ap (λ e. r.goals.items ++ record { param_env = e; predicate = c.args.goal.predicate } ∷ []) c.requires.environment) c.requires.lawful.1.0
+    s.store s.lawful r.ambient_variance r.param_env c.args.predicate
+    c.in_ok-push.ensures.items c.requires.lawful.1.0
     c.requires.known (tt {0})
