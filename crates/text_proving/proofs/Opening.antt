@@ -85,6 +85,7 @@ module _ {Key Id Name F : Type 0} (c d e : Context Key Id Name) (b : IsBack c d)
   leaves_on ks js g (Ok (Maybe why)) h = same_through c d e b.same h
   leaves_on ks js g (Err f) h = tt
 
+module _ {Key Id Name : Type 0} (c d : Context Key Id Name) (b : IsBack c d) where
   -- That two impls meet is said of the record before too, where it is still told.
   pub meeting_on : (ks : List (Binder Key (ClausesKey Key))) (k l : Binder Key (ClausesKey Key)) → All (MayUse c) ks →
       MayUse c k → MayUse c l → (x : Impls) → TellsMeeting d ks k l x → TellsMeeting c ks k l (unclear_if_apart x)

@@ -53,7 +53,7 @@ returns g c =
       apart = subst (TellsApart s c.args.perhaps.now c.args.left c.args.right) is
           (apart_none s c.args.perhaps.now c.args.left c.args.right c.in_ok-again.again);
       meets = subst (TellsMeeting s c.args.said.now c.args.left c.args.right) is
-          (meeting_on s d f b c.args.said.now c.args.left c.args.right c.requires.may_said c.requires.left
+          (meeting_on s d b c.args.said.now c.args.left c.args.right c.requires.may_said c.requires.left
           c.requires.right c.in_ok-again.again t.meets);
       back = same_through s d f b.same t.back;
       lawful = t.lawful;

@@ -1,5 +1,5 @@
 -- What doesn't follow from what is said is asked of what there may be.
-use Rattle.std.proofs.Common.{subst}
+use Rattle.std.proofs.Common.{◌∙◌, ap, subst}
 use Rattle.std.specs.Prelude.{Ok}
 use Rattle.relation_terms.proofs.Stays.{extends_on}
 use Rattle.relation_semantics.proofs.Going.{later_through}
@@ -15,14 +15,15 @@ pub returns-in-Yes : goal.returns-in-Yes
 returns-in-Yes g c =
     let s = g.C.InferCtxtLike.state c.args.ctx.now in
     let d = g.C.InferCtxtLike.state c.prove.new.ctx in
-    let e = c.in_ok-prove.ensures in
+    let e = c.prove.ensures in
     let ks = c.args.said.now in
     let k = c.args.goal.now in
+    let yes = c.in_ok-place.was ∙ ap Ok c.in-Yes.is in
     record {
-      derives = subst (λ t. YesDerives s d ks k c.args.param_env (Ok t)) c.in-Yes.is e.derives;
-      is_by = subst (λ t. YesIsBy s d ks k c.args.param_env (Ok t)) c.in-Yes.is e.is_by;
-      sound = subst (λ t. YesMakesFollow s d ks k (Ok t)) c.in-Yes.is e.sound;
-      principal = subst (λ t. YesLosesNone s d ks k (Ok t)) c.in-Yes.is e.principal;
+      derives = subst (YesDerives s d ks k c.args.param_env) yes e.derives;
+      is_by = subst (YesIsBy s d ks k c.args.param_env) yes e.is_by;
+      sound = subst (YesMakesFollow s d ks k) yes e.sound;
+      principal = subst (YesLosesNone s d ks k) yes e.principal;
       none = tt;
       named = tt;
       back = tt;
@@ -35,7 +36,7 @@ pub told_of_more-requires : goal.told_of_more-requires
 told_of_more-requires g c =
     let s = g.C.InferCtxtLike.state c.args.ctx.now in
     let d = g.C.InferCtxtLike.state c.prove.new.ctx in
-    let e = c.in_ok-prove.ensures in
+    let e = c.prove.ensures in
     let on : GoesOn s d = record { later = e.later; lawful = e.lawful; grown = e.grown } in
     record {
       may = proves_on s d on c.args.perhaps.now c.args.param_env (record {
@@ -51,17 +52,18 @@ returns-in-No g c =
     let s = g.C.InferCtxtLike.state c.args.ctx.now in
     let d = g.C.InferCtxtLike.state c.prove.new.ctx in
     let f = g.C.InferCtxtLike.state c.told_of_more.new.ctx in
-    let e = c.in_ok-prove.ensures in
+    let e = c.prove.ensures in
+    let no = c.in_ok-place.was ∙ ap Ok c.in-No.is in
     let t = c.told_of_more.ensures in
     let r = c.told_of_more.result in
     let ks = c.args.said.now in
     let k = c.args.goal.now in
     let b : IsBack s d = record {
-      same = subst (λ x. LeavesNothing s d ks k (Ok x)) c.in-No.is e.back;
+      same = subst (LeavesNothing s d ks k) no e.back;
       lawful = e.lawful;
       grown = e.grown;
     } in
-    let known = subst (λ x. NoNamesKnown s d ks k (Ok x)) c.in-No.is e.named in
+    let known = subst (NoNamesKnown s d ks k) no e.named in
     record {
       derives = derives_none s f ks k c.in-No.named c.args.param_env r t.tells;
       is_by = is_by_none s f ks k c.in-No.named c.args.param_env r t.tells;
@@ -75,11 +77,11 @@ returns-in-No g c =
       grown = extends_on e.grown t.grown;
     }
 
-pub returns : goal.returns
-returns g c =
+pub returns-in-Maybe : goal.returns-in-Maybe
+returns-in-Maybe g c =
     let s = g.C.InferCtxtLike.state c.args.ctx.now in
     let d = g.C.InferCtxtLike.state c.prove.new.ctx in
-    let e = c.in_ok-prove.ensures in
+    let e = c.prove.ensures in
     record {
       derives = tt;
       is_by = tt;
@@ -87,7 +89,7 @@ returns g c =
       principal = tt;
       none = tt;
       named = tt;
-      back = subst (λ t. LeavesNothing s d c.args.said.now c.args.goal.now (Ok t)) c.in-Maybe.is e.back;
+      back = subst (LeavesNothing s d c.args.said.now c.args.goal.now) (c.in_ok-place.was ∙ ap Ok c.in-Maybe.is) e.back;
       later = e.later;
       lawful = e.lawful;
       grown = e.grown;

@@ -1,5 +1,5 @@
 -- The record is put back.
-use Rattle.std.proofs.Common.{refl, subst}
+use Rattle.std.proofs.Common.{◌∙◌, refl, ap, subst}
 use Rattle.std.specs.Prelude.{Ok}
 use Rattle.kept_records.proofs.Kept.{may_put_back}
 use Rattle.relation_semantics.proofs.Going.{later_itself}
@@ -37,25 +37,26 @@ pub returns-in-No : goal.returns-in-No
 returns-in-No g c =
     let s = g.C.InferCtxtLike.state c.args.ctx.now in
     let d = g.C.InferCtxtLike.state c.prove.new.ctx in
-    let e = c.in_ok-told.ensures in
+    let e = c.prove.ensures in
+    let no = c.in_ok-told.was ∙ ap Ok c.in-No.is in
     record {
       tells = refl;
-      none = subst (λ t. NoFollowsNever s d c.args.rules.now c.args.goal.now (Ok t)) c.in-No.is e.none;
-      back = subst (λ t. LeavesNothing s d c.args.rules.now c.args.goal.now (Ok t)) c.in-No.is e.back;
+      none = subst (NoFollowsNever s d c.args.rules.now c.args.goal.now) no e.none;
+      back = subst (LeavesNothing s d c.args.rules.now c.args.goal.now) no e.back;
       later = e.later;
       lawful = e.lawful;
       grown = e.grown;
     }
 
-pub returns : goal.returns
-returns g c =
+pub returns-in-Maybe : goal.returns-in-Maybe
+returns-in-Maybe g c =
     let s = g.C.InferCtxtLike.state c.args.ctx.now in
     let d = g.C.InferCtxtLike.state c.prove.new.ctx in
-    let e = c.in_ok-told.ensures in
+    let e = c.prove.ensures in
     record {
       tells = tt;
       none = tt;
-      back = subst (λ t. LeavesNothing s d c.args.rules.now c.args.goal.now (Ok t)) c.in-Maybe.is e.back;
+      back = subst (LeavesNothing s d c.args.rules.now c.args.goal.now) (c.in_ok-told.was ∙ ap Ok c.in-Maybe.is) e.back;
       later = e.later;
       lawful = e.lawful;
       grown = e.grown;
