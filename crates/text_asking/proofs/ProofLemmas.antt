@@ -33,8 +33,8 @@ told_known c ks g (Ok (Maybe why)) h = tt
 told_known c ks g (Err f) h = tt
 
 -- The same where it was asked at all.
-pub all_told : {Key Id Name F W : Type 0} (c d : Context Key Id Name) (ks : List (Binder Key (ClausesKey Key)))
-    (g : ClauseKey Key) (r : Result (Result (Told Key) F) W) → IfOk r (NoNamesKnown c d ks g) →
-    IfOk r (KnowsTold d.meaning)
-all_told c d ks g (Ok told) h = told_known d ks g told h
-all_told c d ks g (Err why) h = tt
+pub all_told : {Key Id Name F W : Type 0} (c : Context Key Id Name) (ks : List (Binder Key (ClausesKey Key)))
+    (g : ClauseKey Key) (r : Result (Result (Told Key) F) W) → IfOk r (NoNamesKnown c c ks g) →
+    IfOk r (KnowsTold c.meaning)
+all_told c ks g (Ok told) h = told_known c ks g told h
+all_told c ks g (Err why) h = tt

@@ -17,7 +17,7 @@ ask_proof-requires-clause-goal_known g c = c.requires.known.goal
 
 pub returns-then-is_empty-clause-known : goal.returns-then-is_empty-clause-known
 returns-then-is_empty-clause-known g c =
-    all_told _ _ _ c.args.proof.now.goal c.ask_proof.result c.ask_proof.ensures.named
+    all_told _ _ c.args.proof.now.goal c.ask_proof.result c.ask_proof.ensures.named
 
 pub ask_open_proof-requires-clause-env_known : goal.ask_open_proof-requires-clause-env_known
 ask_open_proof-requires-clause-env_known g c = c.requires.known.env
@@ -37,4 +37,4 @@ ask_open_proof-requires-clause-goal_known g c = c.requires.known.goal
 
 pub returns-clause-known : goal.returns-clause-known
 returns-clause-known g c =
-    all_told _ _ _ c.args.proof.now.goal c.ask_open_proof.result c.ask_open_proof.ensures.named
+    all_told _ _ c.args.proof.now.goal c.ask_open_proof.result c.ask_open_proof.ensures.named
