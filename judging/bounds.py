@@ -25,7 +25,7 @@ class Bounds:
         try:
             if modifier != "none":
                 raise Unspelled(described.CONST)
-            if path["path"].split("::")[-1] in ("Sized", "MetaSized", "PointeeSized"):
+            if path["path"].split("::")[-1] in ("MetaSized", "PointeeSized"):
                 raise Unspelled(described.SIZED)
             with self.freeing(bound["generic_params"]):
                 before = len(self.scope.params)

@@ -2,8 +2,9 @@
 import collections
 import re
 
-from judging import described, library
+from judging import described, forms, library
 from judging.aliases import Aliases, begins, comes_to, cut, name_for, spelled
+from judging.asking import split_list
 from judging.bounds import Bounds
 from judging.described import Described, Scope, Unspelled
 from judging.library import WORD, param_text, put
@@ -12,6 +13,8 @@ from judging.library import WORD, param_text, put
 # and why it states more than that.
 Trait = collections.namedtuple("Trait", "place name params supers states lacks auto local")
 ELSEWHERE = "another crate"
+# The trait of what is sized, which all types have by their forms.
+SIZED = "Sized"
 # An impl: its place, where it comes from, its parameters, its trait with arguments and the type; what it asks for, why
 # there is more, and which parameters may be unsized; what the types of its trait are, by their names, or why one is not
 # spelled. Where the head is not spelled `of` is nothing. For each type that a trait declares stands a parameter; `made`
@@ -59,7 +62,11 @@ class Crate:
         self.named = self.of.library_names()
         self.ids = {name: id for id, name in self.of.names.items()}
         self.impls += [self.renamed(it) for it in library.library().impls]
+        self.ask_sizes()
         self.reach()
+        self.unknown_sizes = []
+        if SIZED in self.traits:
+            self.add_sizes()
 
     def declare_types(self):
         """Finds which types each trait declares, as far as traits are known, and what those of the library state."""
@@ -216,6 +223,31 @@ class Crate:
         known = {*self.types, *self.traits, *(used & described.PLAIN)}
         self.impls = [it for it in self.impls if it.origin == OWN or it.name in used and self.speaks_of(it, known)]
 
+    def ask_sizes(self):
+        """Has impls ask that a parameter is sized where another of the trait has an unsized type in its place."""
+        unsized = {self.named.get(it, it) for it in library.library().unsized}
+        places = {
+            (it.name, at)
+            for it in self.impls
+            for at, of in enumerate(types_of(it))
+            if forms.is_unsized_form(of) or of in unsized
+        }
+        for at, it in enumerate(self.impls):
+            params = {name for sort, name in it.params if sort == "type"} - it.unsized - {name for name, _ in it.made}
+            some = [of for place, of in enumerate(types_of(it)) if of in params and (it.name, place) in places]
+            if it.origin == OWN and some:
+                asks = dict.fromkeys([*(f"{of}: {SIZED}" for of in some), *it.asks])
+                self.impls[at] = it._replace(asks=tuple(asks))
+
+    def add_sizes(self):
+        """Adds an impl of `Sized` for each form of types that is sized, and apart those that may be."""
+        for of, params, types, is_more in forms.sized_forms(self):
+            made = Impl("by its form", OTHER, tuple(params), SIZED, SIZED, of, (), (), frozenset(), (), (), ())
+            if types is not None:
+                self.impls.append(made._replace(asks=tuple(f"{it}: {SIZED}" for it in types)))
+            if is_more:
+                self.unknown_sizes.append(made)
+
     def speaks_of(self, impl, known):
         params = {name for _, name in impl.params}
         said = names_in(" ".join([impl.trait, impl.of or "", *impl.asks, *(ty for _, ty in impl.gives)]))
@@ -271,6 +303,11 @@ def numbered(sort, at, names=("'x", "X", "N")):
 
 def names_first(text):
     return re.match(r"\w+", text)[0]
+
+
+def types_of(impl):
+    """Gives the type that an impl is of, and what its trait is over."""
+    return [impl.of, *split_list(impl.trait.partition("<")[2][:-1])] if impl.of else []
 
 
 def is_blanket(impl):
@@ -330,35 +367,7 @@ def declarations(crate):
     return lines + [f"super {it.name}: {', '.join(it.supers)};" for it in crate.traits.values() if it.supers]
 
 
-def statements(crate):
-    """Gives the statements of a crate, with a comment for what is left out, and how often it was, by reasons. Each impl
-    has its number beside it, by which answers name it, and its place."""
-    lines, missing, number = declarations(crate), collections.Counter(), 0
-
-    def left_out(what, lacks, place):
-        missing.update(dict.fromkeys(lacks, 1))
-        return f"{what}: {' and '.join(dict.fromkeys(lacks))}, {place}"
-
-    for it in crate.traits.values():
-        if it.states:
-            lines.append("// " + left_out(f"{it.name} states {', '.join(it.states)}", [described.OF_ALIAS], it.place))
-        if it.lacks:
-            lines.append("// " + left_out(f"super {it.name}", it.lacks, it.place))
-    for it in sorted(crate.impls, key=lambda it: it.origin == OTHER):
-        lacks = [*it.lacks, *(why for _, why in it.unsaid)]
-        if not it.of or not is_whole(it.lacks):
-            what, lacks = (impl_text(it), lacks) if it.of else (f"impl {it.name}", [it.trait])
-            lines.append("// " + left_out(what, lacks, it.place))
-            continue
-        number += 1
-        beside = left_out("; beside", lacks, it.place) if lacks else f", {it.place}"
-        lines.append(f"{impl_text(it)}; // {number}{beside}")
-    return lines, missing
-
-
-def text(crate):
-    """Gives the text of a crate's statements."""
-    lines, missing = statements(crate)
-    left = "".join(f"; {many} {why}" for why, many in missing.most_common())
-    last = f"// Not spelled: {sum(missing.values())}{left}"
-    return "\n".join([f"// {crate.of.name} {crate.of.version}", *lines, last, ""])
+def traits_stated(trait):
+    """Gives the traits of which a trait states that something has them."""
+    bounds = [it for it in (*trait.supers, *trait.states) if not comes_to(it)]
+    return {names_first(cut(it, ": ")[1]) for it in bounds}

@@ -29,7 +29,7 @@ PLAIN = set("bool char str i8 i16 i32 i64 i128 isize u8 u16 u32 u64 u128 usize f
 WORDS = set(
     "after args as assume assumptions at auto binding budget closure components const coroutine count dyn elaborate"
     " error escapes expr extern fn fold for goals impl implied in infer infers inherent is key let limit may methods"
-    " mode mut null of one opaque overlap param prove pulls regions repeat rigid self sized skip solve solver stop"
+    " mode mut null of one opaque open overlap param prove pulls regions repeat rigid self sized skip solve solver stop"
     " struct super supertraits then trait type unify unsafe variables visit walk where with witness".split()
 )
 ABIS = {"Rust": "", "C": 'extern "C" ', "System": 'extern "system" '}

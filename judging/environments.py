@@ -3,7 +3,7 @@ import re
 
 from judging.aliases import Aliases, comes_to, cut, erased, name_for, spelled
 from judging.asking import split_list
-from judging.crate import ELSEWHERE, names_first
+from judging.crate import ELSEWHERE, SIZED, names_first
 from judging.library import WORD, put
 
 # How many aliases may stand in one: of `T`, of its types, and of theirs.
@@ -35,6 +35,9 @@ class Environment:
         """
         self.crate, self.clauses, self.made, self.depths = crate, [], set(), {}
         self.values, self.unknown = values, self.unknown_of(impl, values)
+        unknown = {name for name, _ in self.unknown}
+        some = {name for sort, name in impl.params if sort == "type" and values.get(name, name) == name}
+        self.sized = some - unknown - impl.unsized
         self.aliases = Aliases(self.parameter)
         bounds = self.bounds_of(impl)
         for it in bounds:
@@ -110,6 +113,7 @@ class Environment:
     def text(self):
         """Gives the statement that assumes all of it."""
         said = [*self.clauses, *(f"{alias} == {term}" for alias, term in self.aliases.said())]
+        said += [f"{it}: {SIZED}" for it in sorted(self.sized | self.made) if SIZED in self.crate.traits]
         return f"assume {', '.join(dict.fromkeys(said))}" if said else "assume"
 
     def implies_more(self):

@@ -6,7 +6,7 @@ pub trait Area<U = f64> {
     type Unit;
 }
 
-/// Its type has a bound, for which there is no statement.
+/// Its type has a bound, which is implied.
 pub trait Solid: Area + Sized {
     type Face: Area;
 }

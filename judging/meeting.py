@@ -81,7 +81,9 @@ def judge_met(it, asker, met):
         is_sized = not any(is_unsized(it, bound.terms.get(var, "")) for var in sized)
         whole = all(is_whole(impl.lacks) for impl in pair)
         whole = whole and not any(may_be_unsized(bound.terms.get(var, "")) for var in sized)
-        comes = met_because(goals, whole) if is_sized else BY_SIZED
+        comes = met_because(goals, whole)
+        if not is_sized and comes != BY_BOUND:
+            comes = BY_SIZED
         found.append(Judged(pair[0].place, f"{text}, of {pair[1].place}: {head(pair[0])}, {head(pair[1])}", comes))
     return found
 

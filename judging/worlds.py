@@ -1,7 +1,8 @@
 """Rules for what a crate leaves open: what isn't spelled, and what other crates may have."""
 from judging.aliases import closing, comes_to, cut
-from judging.crate import ELSEWHERE, generic, impl_text, is_whole, names_first, numbered
-from judging.library import WORD, form_head, library
+from judging.crate import ELSEWHERE, SIZED, generic, impl_text, is_whole, names_first, numbered
+from judging.forms import foreign_forms
+from judging.library import form_head, library
 
 
 def param_names(crate):
@@ -18,15 +19,21 @@ def spelled(crate):
 def all_own(crate):
     """Gives beside the others as far as they are spelled, and all types for what isn't: an impl's head, or a type of
     its trait."""
-    rules = []
-    for it in crate.impls:
-        if it.of and (it.unsaid or not is_whole(it.lacks)):
-            free = [(item, f"Z{at}") for at, (item, _) in enumerate(it.unsaid) if item in types_of(crate, it.name)]
-            params = (*it.params, *(("type", name) for _, name in free))
-            it = it._replace(params=params, gives=(*it.gives, *free))
-        if it.of:
-            rules.append(f"{impl_text(it)};")
+    rules = [f"{impl_text(widened(crate, it))};" for it in crate.impls if it.of]
+    rules += [f"{impl_text(it)};" for it in crate.unknown_sizes]
     return rules + headless(crate) + autos(crate)
+
+
+def is_open(crate, impl):
+    """Says whether it isn't spelled what a type of an impl's trait is."""
+    return any(item in types_of(crate, impl.name) for item, _ in impl.unsaid)
+
+
+def widened(crate, impl):
+    """Gives an impl with any types for those that aren't spelled."""
+    free = [(item, f"Z{at}") for at, (item, _) in enumerate(impl.unsaid) if item in types_of(crate, impl.name)]
+    params = (*impl.params, *(("type", name) for _, name in free))
+    return impl._replace(params=params, gives=(*impl.gives, *free))
 
 
 def headless(crate):
@@ -90,11 +97,21 @@ def perhaps(crate):
         rules += [f"{start} {HEAD} for {of};", f"{start} {WHOLE} for {of}{where(params, WHOLE)};"]
     asked = asked_traits(crate)
     for it in crate.traits.values():
-        if it.name in asked:
+        if it.name in asked and it.name != SIZED:
             rules += [rule(crate, it, *form) for form in perhaps_for(crate, it, forms)]
             if not it.local and it.place == ELSEWHERE:
                 rules += [rule(crate, it, of, []) for of in of_params]
     return list(dict.fromkeys(rules))
+
+
+def of_form(of, params):
+    """Says that a form of types is none of the crate's own."""
+    return f"impl{generic(params)} {HEAD} for {of}"
+
+
+def for_others(crate, trait):
+    """Gives an impl of a trait for all types that are none of the crate's own, whatever its types are."""
+    return rule(crate, trait, "X", [("type", "X")]).removesuffix(";") + f" where X: {HEAD}"
 
 
 def perhaps_for(crate, trait, forms):
@@ -122,22 +139,3 @@ def trait_of(clause):
     if not said:
         return cut(clause, ": ")[1]
     return cut(said[0][1 : closing(said[0], 0)], " as ")[1]
-
-
-def foreign_forms(crate):
-    """Gives the forms of types that are not the crate's own, with their parameters."""
-    found = []
-    for name, params in crate.types.items():
-        if not crate.is_local_type(name):
-            args = f"<{', '.join(it for _, it in params)}>" if params else ""
-            found.append((name + args, params))
-    for text, params in crate.of.forms.items():
-        words = set(WORD.findall(text))
-        own = [it for it in [*params, *FORM_PARAMS] if it[1] in words]
-        found.append((text, list(dict.fromkeys(own))))
-    return found
-
-
-# The parameters of forms, as `described.form_of` names them.
-FORM_PARAMS = [("lifetime", "'x0"), ("const", "N1"), *(("type", f"X{at}") for at in range(32))]
-

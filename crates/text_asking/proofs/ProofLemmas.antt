@@ -1,6 +1,6 @@
 -- What is asked whether it follows stays known, and what is told of it is.
 use Rattle.std.proofs.Common.{List, Some, None}
-use Rattle.std.specs.Prelude.{Result, Ok, Err}
+use Rattle.std.specs.Prelude.{Result, Ok, Err, IfOk}
 use Rattle.relation_terms.specs.declared.terms.binder.Binder.{Binder}
 use Rattle.relation_terms.specs.declared.terms.keys.ClauseKey.{ClauseKey}
 use Rattle.relation_terms.specs.declared.terms.keys.ClausesKey.{ClausesKey}
@@ -18,6 +18,7 @@ pub proof_later : {Key Id Name : Type 0} {m n : Meaning Key Id Name} → Extends
     KnowsProof m p → KnowsProof n p
 proof_later e p h = record {
   rules = rules_later e p.rules.items h.rules;
+  perhaps = rules_later e p.perhaps.items h.perhaps;
   env = knows_param_env e p.param_env h.env;
   goal = knows_clause e p.goal h.goal;
 }
@@ -30,3 +31,10 @@ told_known c ks g (Ok (No None)) h = tt
 told_known c ks g (Ok (No (Some b))) h = h.is_known
 told_known c ks g (Ok (Maybe why)) h = tt
 told_known c ks g (Err f) h = tt
+
+-- The same where it was asked at all.
+pub all_told : {Key Id Name F W : Type 0} (c : Context Key Id Name) (ks : List (Binder Key (ClausesKey Key)))
+    (g : ClauseKey Key) (r : Result (Result (Told Key) F) W) → IfOk r (NoNamesKnown c c ks g) →
+    IfOk r (KnowsTold c.meaning)
+all_told c ks g (Ok told) h = told_known c ks g told h
+all_told c ks g (Err why) h = tt

@@ -12,6 +12,7 @@ use Rattle.text_asking.specs.declared.proving.Proof.{Proof}
 -- The rules, the environment and the goal are known.
 pub record KnowsProof {Key Id Name : Type 0} (m : Meaning Key Id Name) (p : Proof Key) : Type 0 where
   pub rules : All (KnowsMade m) p.rules.items
+  pub perhaps : All (KnowsMade m) p.perhaps.items
   pub env : IsTrue (known (m.param_env p.param_env))
   pub goal : KnowsClause m p.goal
 
@@ -23,6 +24,7 @@ KnowsTold m told = Unit {0}
 -- The rules, the environment and both impls are known.
 pub record KnowsPair {Key Id Name : Type 0} (m : Meaning Key Id Name) (p : Pair Key) : Type 0 where
   pub rules : All (KnowsMade m) p.rules.items
+  pub perhaps : All (KnowsMade m) p.perhaps.items
   pub env : IsTrue (known (m.param_env p.param_env))
   pub left : KnowsMade m p.left
   pub right : KnowsMade m p.right

@@ -7,12 +7,13 @@ ghost use Rattle.text_asking.specs.Asking.{AllReady, KnowsAnswer, KnowsRelated};
 ghost use Rattle.text_asking.specs.Proofs.{KnowsPair};
 
 use crate::environment::environment_of;
-use crate::proving::{rule_at, rules_of};
+use crate::proving::{perhaps_of, rule_at, rules_of};
 use crate::question::{Answer, Outcome, Ready, Unasked};
 use relation_reference::context::RefCtxt;
 use relation_terms::terms::{Binder, ClausesKey, Interner, Keys, ParamEnvKey};
 use std::fmt::{self, Write};
-use text_proving::impls::{Impls, ImplsResult, WhyApart, ask_impls, impls_text};
+use text_proving::impls::{Impls, ImplsResult, WhyApart, WhyNot, ask_impls, impls_text};
+use text_proving::open::ask_open_impls;
 use text_proving::rules::RuleOf;
 use text_reading::naming::{Impl, Parts};
 
@@ -20,6 +21,8 @@ use text_reading::naming::{Impl, Parts};
 #[derive(Drop)]
 struct Pair<X: Copy> {
     rules: Vec<Binder<X, ClausesKey<X>>>,
+    // These and those that there may be, or none where there are no such.
+    perhaps: Vec<Binder<X, ClausesKey<X>>>,
     param_env: ParamEnvKey<X>,
     left: Binder<X, ClausesKey<X>>,
     right: Binder<X, ClausesKey<X>>,
@@ -60,12 +63,14 @@ fn pair_of<I: Interner>(
 {
     let left = rule_said(cx, terms, left)?;
     let right = rule_said(cx, terms, right)?;
-    let rules = rules_of(cx, terms, assumed, impls)?;
+    let perhaps = perhaps_of(cx, terms, assumed, impls)?;
+    let rules = rules_of(cx, terms, assumed, impls, false)?;
     let Ok(param_env) = environment_of(cx, terms, assumed) else {
         return None;
     };
     Some(Pair {
         rules,
+        perhaps,
         param_env,
         left,
         right,
@@ -103,6 +108,38 @@ fn bound_named<I: Interner>(
     Some(bound_at(left, right, *place))
 }
 
+// Asks what a question asks about two impls.
+fn told_of<I: Interner>(
+    ctx: &mut RefCtxt<I>,
+    pair: &PairOf<I>,
+    depth: usize,
+) -> Result<ImplsResult<I>, WhyNot>
+    requires lawful { IsLawful (I.meaning ctx.old.interner) ctx.old.inner }
+    requires known { KnowsPair (I.meaning ctx.old.interner) pair.now }
+    ensures lawful { IsLawful (I.meaning ctx.new.interner) ctx.new.inner }
+    ensures grown { Extends (I.meaning ctx.old.interner) (I.meaning ctx.new.interner) }
+{
+    if pair.perhaps.is_empty() {
+        return ask_impls(
+            ctx,
+            &pair.rules,
+            pair.param_env,
+            pair.left,
+            pair.right,
+            depth,
+        );
+    }
+    ask_open_impls(
+        ctx,
+        &pair.rules,
+        &pair.perhaps,
+        pair.param_env,
+        pair.left,
+        pair.right,
+        depth,
+    )
+}
+
 // Asks in a context whether two impls overlap, by the places of their first rules, within a depth, by the first rules of
 // a program's impls and by what is assumed.
 pub(super) fn ask_whole_impls<I: Interner>(
@@ -124,14 +161,7 @@ pub(super) fn ask_whole_impls<I: Interner>(
     let Some(pair) = pair_of(&mut ctx.interner, terms, assumed, left, right, impls) else {
         return Err(Unasked::Memory);
     };
-    match ask_impls(
-        ctx,
-        &pair.rules,
-        pair.param_env,
-        pair.left,
-        pair.right,
-        depth,
-    ) {
+    match told_of(ctx, &pair, depth) {
         Ok(told) => {
             let bound = bound_named(terms, left, right, &told);
             Ok(Answer::Impls(told, bound))

@@ -18,7 +18,8 @@ use relation_terms::terms::{Binder, Clause, ClauseKey, ClausesKey, Interner, Key
 use std::fmt::{self, Write};
 use text_clauses::building::build_clause;
 use text_clauses::printing::write_clause;
-use text_proving::proving::{ProofResult, ask_proof, place_named, proof_text};
+use text_proving::open::ask_open_proof;
+use text_proving::proving::{ProofResult, WhyNot, ask_proof, place_named, proof_text};
 use text_proving::rules::{RuleOf, rule_of, rules_held};
 use text_proving::sources::{Source, source_held, write_source};
 use text_reading::naming::{Impl, Parts};
@@ -29,6 +30,8 @@ use text_terms::printing::TextsOf;
 #[derive(Drop)]
 struct Proof<X: Copy> {
     rules: Vec<Binder<X, ClausesKey<X>>>,
+    // These and those that there may be, or none where there are no such.
+    perhaps: Vec<Binder<X, ClausesKey<X>>>,
     param_env: ParamEnvKey<X>,
     goal: ClauseKey<X>,
 }
@@ -73,8 +76,54 @@ fn held_of<I: Interner>(cx: &mut I, terms: &Ready<I>, assumed: Parts) -> Option<
     }
 }
 
-// The rules of what is assumed, and the first ones of a program's impls.
+// The rules of what is assumed, and the first ones of a program's impls; with the open ones if these are asked for.
 pub(super) fn rules_of<I: Interner>(
+    cx: &mut I,
+    terms: &Ready<I>,
+    assumed: Parts,
+    impls: usize,
+    open: bool,
+) -> Option<Vec<RuleOf<I>>>
+    requires { AllReady (I.meaning cx.old) terms.now }
+    ensures grown { Extends (I.meaning cx.old) (I.meaning cx.new) }
+    ensures sure { IfSome result (λ made. All (KnowsMade (I.meaning cx.new)) made.items) }
+{
+    let list = terms.impls.get(..impls)?;
+    let mut made = held_of(cx, terms, assumed)?;
+    for said in list {
+        if said.open && !open {
+            continue;
+        }
+        let next = rule_at(cx, terms, said)?;
+        if made.push(next).is_err() {
+            return None;
+        }
+    }
+    Some(made)
+}
+
+// How many rules of these impls are none of open ones.
+fn said_count(list: &[Impl]) -> usize {
+    let mut count: usize = 0;
+    for said in list {
+        if !said.open {
+            count = count.saturating_add(1);
+        }
+    }
+    count
+}
+
+// Whether some of a program's first impls are open.
+fn has_open<I: Interner>(terms: &Ready<I>, impls: usize) -> bool {
+    match terms.impls.get(..impls) {
+        Some(list) => said_count(list) < list.len(),
+        None => false,
+    }
+}
+
+// All rules with those that there may be, or none where there are no such.
+#[tactic(auto, using(relation_terms::proofs::Stays::stays_same))]
+pub(super) fn perhaps_of<I: Interner>(
     cx: &mut I,
     terms: &Ready<I>,
     assumed: Parts,
@@ -84,15 +133,11 @@ pub(super) fn rules_of<I: Interner>(
     ensures grown { Extends (I.meaning cx.old) (I.meaning cx.new) }
     ensures sure { IfSome result (λ made. All (KnowsMade (I.meaning cx.new)) made.items) }
 {
-    let list = terms.impls.get(..impls)?;
-    let mut made = held_of(cx, terms, assumed)?;
-    for said in list {
-        let next = rule_at(cx, terms, said)?;
-        if made.push(next).is_err() {
-            return None;
-        }
+    if has_open(terms, impls) {
+        rules_of(cx, terms, assumed, impls, true)
+    } else {
+        Some(Vec::new(cx.alloc()))
     }
-    Some(made)
 }
 
 // What a question asks: the number of the goal's predicate, and how many rules of impls stand before it.
@@ -108,15 +153,32 @@ fn proof_of<I: Interner>(
     ensures sure { IfSome result (KnowsProof (I.meaning cx.new)) }
 {
     let goal = goal_of(cx, terms, goal)?;
-    let rules = rules_of(cx, terms, assumed, impls)?;
+    let perhaps = perhaps_of(cx, terms, assumed, impls)?;
+    let rules = rules_of(cx, terms, assumed, impls, false)?;
     let Ok(param_env) = environment_of(cx, terms, assumed) else {
         return None;
     };
     Some(Proof {
         rules,
+        perhaps,
         param_env,
         goal,
     })
+}
+
+// The number of the impl that has the rule of that place among these, but for those of open ones.
+fn number_at(list: &[Impl], place: usize) -> Option<usize> {
+    let mut left = place;
+    for said in list {
+        if said.open {
+            continue;
+        }
+        match left.checked_sub(1) {
+            Some(less) => left = less,
+            None => return Some(said.number),
+        }
+    }
+    None
 }
 
 // Of which statement the rule at a place is. Those of the program's first impls, so many, are the last ones.
@@ -129,10 +191,11 @@ fn source_at<I: Interner>(
 ) -> Option<Source>
     requires { KnowsProof (I.meaning cx.now) proof.now }
 {
-    let held = proof.rules.len().saturating_sub(impls);
+    let list = terms.impls.get(..impls)?;
+    let held = proof.rules.len().saturating_sub(said_count(list));
     if place >= held {
-        let rule = terms.impls.get(place - held)?;
-        return Some(Source::Impl(rule.number));
+        let number = number_at(list, place - held)?;
+        return Some(Source::Impl(number));
     }
     let rule = proof.rules.get(place)?;
     let assumed = cx.caller_bounds(&proof.param_env);
@@ -151,6 +214,31 @@ fn source_named<I: Interner>(
 {
     let place = place_named::<I>(told)?;
     source_at(cx, terms, proof, impls, place)
+}
+
+// Asks what a question asks.
+fn told_of<I: Interner>(
+    ctx: &mut RefCtxt<I>,
+    proof: &ProofOf<I>,
+    depth: usize,
+) -> Result<ProofResult<I>, WhyNot>
+    requires lawful { IsLawful (I.meaning ctx.old.interner) ctx.old.inner }
+    requires known { KnowsProof (I.meaning ctx.old.interner) proof.now }
+    ensures lawful { IsLawful (I.meaning ctx.new.interner) ctx.new.inner }
+    ensures grown { Extends (I.meaning ctx.old.interner) (I.meaning ctx.new.interner) }
+    ensures known { IfOk result (KnowsTold (I.meaning ctx.new.interner)) }
+{
+    if proof.perhaps.is_empty() {
+        return ask_proof(ctx, &proof.rules, proof.param_env, &proof.goal, depth);
+    }
+    ask_open_proof(
+        ctx,
+        &proof.rules,
+        &proof.perhaps,
+        proof.param_env,
+        &proof.goal,
+        depth,
+    )
 }
 
 // Asks in a context whether a predicate follows within a depth, by its number, from the first rules of a program's impls
@@ -176,7 +264,7 @@ pub(super) fn ask_proved<I: Interner>(
     let Ok(_) = have_named(ctx, &proof.goal) else {
         return Err(Unasked::Memory);
     };
-    match ask_proof(ctx, &proof.rules, proof.param_env, &proof.goal, depth) {
+    match told_of(ctx, &proof, depth) {
         Ok(told) => {
             let source = source_named(&ctx.interner, terms, &proof, impls, &told);
             Ok(Answer::Proved(told, source))

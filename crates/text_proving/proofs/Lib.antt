@@ -2,3 +2,4 @@ mod Closing
 mod Serving
 pub mod Making
 pub mod Implying
+mod Opening

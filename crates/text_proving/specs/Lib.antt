@@ -4,3 +4,4 @@ pub mod Implied
 pub mod Asked
 pub mod Texts
 pub mod Sources
+pub mod Open

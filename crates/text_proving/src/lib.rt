@@ -5,6 +5,7 @@
 mod closed;
 pub mod implied;
 pub mod impls;
+pub mod open;
 pub mod proving;
 mod refusing;
 pub mod rules;

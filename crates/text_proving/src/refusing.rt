@@ -171,3 +171,52 @@ pub(crate) fn impls_refusal<C: HasVariables>(
     }
     None
 }
+
+/// The same where there may be more rules than are said.
+pub(crate) fn open_refusal<C: HasVariables>(
+    ctx: &C,
+    said: &[RuleOf<C::Interner>],
+    perhaps: &[RuleOf<C::Interner>],
+    goal: &Clause<C::Interner>,
+) -> Option<WhyNot>
+    requires said_known { All (KnowsRule (C.state ctx.now)) said.now }
+    requires perhaps_known { All (KnowsRule (C.state ctx.now)) perhaps.now }
+    requires goal_known { IsTrue (known ((C.state ctx.now).meaning.clause goal.now)) }
+    ensures said { IfNone result (All (MayServe (C.state ctx.now)) said.now) }
+    ensures perhaps { IfNone result (All (MayServe (C.state ctx.now)) perhaps.now) }
+    ensures goal { IfNone result (MayAsk (C.state ctx.now) goal.now) }
+{
+    if let Some(why) = rules_refusal(ctx, said) {
+        return Some(why);
+    }
+    if let Some(why) = rules_refusal(ctx, perhaps) {
+        return Some(why);
+    }
+    if let Some(why) = goal_refusal(ctx, goal) {
+        return Some(why);
+    }
+    None
+}
+
+/// The same of two impls.
+pub(crate) fn open_impls_refusal<C: HasVariables>(
+    ctx: &C,
+    said: &[RuleOf<C::Interner>],
+    perhaps: &[RuleOf<C::Interner>],
+    left: &RuleOf<C::Interner>,
+    right: &RuleOf<C::Interner>,
+) -> Option<WhyNot>
+    requires said_known { All (KnowsRule (C.state ctx.now)) said.now }
+    requires perhaps_known { All (KnowsRule (C.state ctx.now)) perhaps.now }
+    requires left_known { KnowsRule (C.state ctx.now) left.now }
+    requires right_known { KnowsRule (C.state ctx.now) right.now }
+    ensures said { IfNone result (All (MayServe (C.state ctx.now)) said.now) }
+    ensures perhaps { IfNone result (All (MayServe (C.state ctx.now)) perhaps.now) }
+    ensures left { IfNone result (MayServe (C.state ctx.now) left.now) }
+    ensures right { IfNone result (MayServe (C.state ctx.now) right.now) }
+{
+    if let Some(why) = rules_refusal(ctx, said) {
+        return Some(why);
+    }
+    impls_refusal(ctx, perhaps, left, right)
+}

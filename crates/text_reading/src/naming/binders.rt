@@ -26,6 +26,7 @@ fn is_binder(node: &Node) -> bool {
                 | Form::ImplHeader
                 | Form::Method
                 | Form::Impl
+                | Form::OpenImpl
                 | Form::Given
         )
     )

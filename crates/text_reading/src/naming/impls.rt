@@ -55,24 +55,17 @@ impl<'a> Namer<'a> {
         }
     }
 
-    // A rule of the impl of a number, that later goals may follow from: what it is generic over, what it gives, and what
-    // it asks for.
-    fn add_rule(
-        &mut self,
-        node: &Node,
-        number: usize,
-        variables: Parts,
-        gives: Clause,
-        asks: &[usize],
-    ) -> Named<()> {
+    // A rule of an impl, that later goals may follow from: what it gives, and what it asks for.
+    fn add_rule(&mut self, node: &Node, of: Impl, gives: Clause, asks: &[usize]) -> Named<()> {
         let first = self.program.clauses.len();
         self.program.clauses.push(gives)?;
         let asked = self.clauses(asks)?;
         self.each_provable(node, asked)?;
         let clauses = Parts::new(first, asked.behind);
         self.program.impls.push(Impl {
-            number,
-            variables,
+            number: of.number,
+            open: of.open,
+            variables: of.variables,
             clauses,
         })?;
         Ok(())
@@ -92,23 +85,28 @@ impl<'a> Namer<'a> {
     }
 
     // An impl that later goals may follow from: what it is generic over, what it gives, and what it asks for. What it says
-    // that a type or a constant of its trait is, is a rule of its own, which asks for the same.
+    // that a type or a constant of its trait is, is a rule of its own, which asks for the same. An open one there may be.
     pub fn declare_impl(
         &mut self,
         node: &Node,
+        open: bool,
         generics: usize,
         given: usize,
         asks: &[usize],
     ) -> Named<()> {
-        let number = self.next_impl();
-        let variables = self.variables(generics)?;
+        let of = Impl {
+            number: self.next_impl(),
+            open,
+            variables: self.variables(generics)?,
+            clauses: Parts::new(0, 0),
+        };
         let given = self.node(given);
         let header = self.header(&given)?;
-        self.add_rule(node, number, variables, header, asks)?;
+        self.add_rule(node, of, header, asks)?;
         let gives = self.node(self.part(&given, 3));
         for assigned in self.parts(&gives) {
             let clause = self.assigned(&given, *assigned)?;
-            self.add_rule(node, number, variables, clause, asks)?;
+            self.add_rule(node, of, clause, asks)?;
         }
         Ok(())
     }

@@ -185,6 +185,8 @@ pub struct Stated {
 pub struct Impl {
     /// The impl's number among the program's, from 1 on: each of its rules has it.
     pub number: usize,
+    /// Whether there may be such an impl, and it isn't said that there is.
+    pub open: bool,
     pub variables: Parts,
     pub clauses: Parts,
 }

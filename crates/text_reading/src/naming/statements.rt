@@ -105,7 +105,10 @@ impl<'a> Namer<'a> {
                 Ok(())
             }
             (Form::Impl, [generics, given, asks @ ..]) => {
-                self.declare_impl(node, *generics, *given, asks)
+                self.declare_impl(node, false, *generics, *given, asks)
+            }
+            (Form::OpenImpl, [generics, given, asks @ ..]) => {
+                self.declare_impl(node, true, *generics, *given, asks)
             }
             _ => self.question(node, form, parts),
         }

@@ -73,6 +73,7 @@ pub enum Sign {
     Of,
     One,
     Opaque,
+    Open,
     Overlap,
     Param,
     Prove,
@@ -113,7 +114,7 @@ macro_rules! signs {
 }
 
 // Each sign and its text, in the order of the texts.
-static SIGNS: [(Sign, &str); 98] = signs! {
+static SIGNS: [(Sign, &str); 99] = signs! {
     Bang "!", AbiC "\"C\"", AbiSystem "\"system\"", Ampersand "&", LeftParen "(", RightParen ")", Star "*",
     Plus "+", Comma ",", Minus "-", Arrow "->", Dots "..", UpTo "..=", Colon ":", PathSep "::",
     Supertype ":>", Semicolon ";", Less "<", Subtype "<:", Assign "=", Equal "==", StructurallyEqual "===",
@@ -123,7 +124,7 @@ static SIGNS: [(Sign, &str); 98] = signs! {
     Dyn "dyn", Elaborate "elaborate", Error "error", Escapes "escapes", Expr "expr", Extern "extern", Fn "fn",
     Fold "fold", For "for", Goals "goals", Impl "impl", Implied "implied", In "in", Infer "infer",
     Infers "infers", Inherent "inherent", Is "is", Key "key", Let "let", Limit "limit", May "may",
-    Methods "methods", Mode "mode", Mut "mut", Null "null", Of "of", One "one", Opaque "opaque",
+    Methods "methods", Mode "mode", Mut "mut", Null "null", Of "of", One "one", Opaque "opaque", Open "open",
     Overlap "overlap", Param "param", Prove "prove", Pulls "pulls", Regions "regions", Repeat "repeat",
     Rigid "rigid", SelfType "self", Sized "sized", Skip "skip", Solve "solve", Solver "solver", Stop "stop",
     Struct "struct", Super "super", Supertraits "supertraits", Then "then", Trait "trait", Type "type",

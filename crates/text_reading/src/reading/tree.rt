@@ -123,6 +123,8 @@ pub enum Form {
     Assumes,
     /// An impl, for later questions: the `Generics` that it is under, the `Given`, and the predicates that it asks for.
     Impl,
+    /// An impl that there may be, with the same parts.
+    OpenImpl,
     /// What an impl gives: the `Bound` of a binder that binds nothing, the `Named` of the trait, the type that implements
     /// it, and the `Gives`.
     Given,

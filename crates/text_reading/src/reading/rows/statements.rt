@@ -6,9 +6,9 @@ use crate::reading::shapes::Piece::{Further, Leaf, List, Mark, NextTwo, OneOf, P
 use crate::reading::shapes::{A_NAME, A_NUMBER, A_TERM, ITSELF, Piece, Shape, Sort, row};
 use crate::reading::signs::Sign::{
     AbiC, AbiSystem, Assign, Assume, Auto, Budget, Closure, Colon, Comma, Const, Coroutine, Extern,
-    Fn, Greater, Impl, Implied, In, Inherent, LeftParen, Less, Let, Minus, Mode, Opaque, Param,
-    PathSep, Plus, Semicolon, Sized, Solver, Star, Struct, Super, Trait, Type, Variables, Where,
-    Witness,
+    Fn, Greater, Impl, Implied, In, Inherent, LeftParen, Less, Let, Minus, Mode, Opaque, Open,
+    Param, PathSep, Plus, Semicolon, Sized, Solver, Star, Struct, Super, Trait, Type, Variables,
+    Where, Witness,
 };
 use crate::reading::tree::{Form, ItemSort, Setting, StatedKind};
 use term_enums::Variance;
@@ -20,7 +20,7 @@ const PARAMETERS: Piece = List(Sort::Declared, To(Greater));
 const TYPE_OR_CONST: Expected = Expected::Either(Type, Const);
 
 // A statement, without the `;` behind it. A function pointer that begins one is asked about.
-pub(in crate::reading) static STATEMENT: [Shape; 32] = [
+pub(in crate::reading) static STATEMENT: [Shape; 33] = [
     row!(ITSELF => NextTwo(Fn, LeftParen), Part(Sort::Question)),
     row!(ITSELF => NextTwo(Extern, AbiC), Part(Sort::Question)),
     row!(ITSELF => NextTwo(Extern, AbiSystem), Part(Sort::Question)),
@@ -56,6 +56,8 @@ pub(in crate::reading) static STATEMENT: [Shape; 32] = [
     row!(Node(Form::Parameters) => Mark(Param), List(Sort::Parameter, By(Comma))),
     row!(Node(Form::Assumes) => Mark(Assume), Unless(Semicolon, Sort::Predicate)),
     row!(Node(Form::Impl) => Mark(Impl), Part(Sort::Generics), Part(Sort::Given), Further(Where),
+        List(Sort::Predicate, By(Comma))),
+    row!(Node(Form::OpenImpl) => Mark(Open), Mark(Impl), Part(Sort::Generics), Part(Sort::Given), Further(Where),
         List(Sort::Predicate, By(Comma))),
     row!(Node(Form::Sets(Setting::Budget)) => Mark(Budget), A_NUMBER),
     row!(Node(Form::Sets(Setting::Solver)) => Mark(Solver), A_NAME),
