@@ -5,11 +5,13 @@ ghost use Rattle.relation_semantics.specs.Steps.{IsLater};
 ghost use Rattle.relation_solver.specs.Traces.{HasOneValue};
 ghost use Rattle.relation_proving.specs.Candidates.{MayAsk};
 ghost use Rattle.relation_proving.specs.RuleTerms.{MayUse};
-ghost use Rattle.relation_proving.specs.Telling.{MayProve, GoesOn, IsBack, TellsGoal, TellsAll, TellsRule};
-ghost use Rattle.relation_proving.specs.Searching.{TellsRound, TellsTried};
+ghost use Rattle.relation_proving.specs.Telling.{MayProve, GoesOn, TellsGoal, TellsAll, TellsRule};
+ghost use Rattle.relation_proving.specs.Searching.{IsBackUnless, TellsRound, TellsTried};
+ghost use Rattle.relation_proving.specs.Remembering.{RemembersAll, RemembersMore};
 ghost use Rattle.relation_proving.specs.Answers.{YesDerives, YesIsBy, YesMakesFollow, YesLosesNone};
 ghost use Rattle.relation_proving.specs.Answers.{NoFollowsNever, NoNamesKnown, YesStaysFirstOrder, LeavesNothing};
 
+use crate::asked::AskedGoals;
 use crate::barring::is_passed_over;
 use crate::blaming::blame_of;
 use crate::candidate::{Candidate, try_rule};
@@ -17,10 +19,9 @@ use crate::opening::RuleOf;
 use crate::ordering::is_of_variable;
 use crate::reading::comes_to_one;
 use crate::searching::{
-    Round, RoundOf, Search, Tried, TriedOf, Verdict, VerdictOf, is_over, keep_told, settle,
-    with_tried, worse,
+    Round, RoundOf, Search, Tried, TriedOf, Verdict, VerdictOf, is_left, is_over, keep_told,
+    settle, with_tried, worse,
 };
-use crate::spent::SpentGoals;
 pub use crate::told::{Blame, BlameOf, Told, ToldOf, Why};
 use kept_records::KeepsRecord;
 use relation_folds::error::RelateResult;
@@ -76,11 +77,12 @@ pub fn prove<C: KeepsRecord>(
 {
     laws::derivations();
     laws::goals();
-    let mut spent = SpentGoals::new(ctx.cx().alloc());
-    follows(ctx, rules, param_env, goal, depth, span, &mut spent)
+    let mut asked = AskedGoals::new(ctx.cx().alloc());
+    follows(ctx, rules, param_env, goal, depth, span, &mut asked)
 }
 
-// Whether a goal follows. One whose depth was spent with as many levels left spends it again.
+// Whether a goal follows. One that was proved in what is recorded is not proved again, and one whose depth was spent with
+// as many levels left spends it again.
 #[cycle(proving)]
 fn follows<C: KeepsRecord>(
     ctx: &mut C,
@@ -89,23 +91,27 @@ fn follows<C: KeepsRecord>(
     goal: &Clause<C::Interner>,
     depth: usize,
     span: Span<C::Interner>,
-    spent: &mut SpentGoals<Clause<C::Interner>>,
+    asked: &mut AskedGoals<Clause<C::Interner>>,
 ) -> RelateResult<C::Interner, ToldOf<C::Interner>>
     requires may { MayProve (C.state ctx.old) rules.now param_env }
     requires goal { MayAsk (C.state ctx.old) goal.now }
+    requires remembers { RemembersAll (C.state ctx.old) rules.now param_env asked.old.proved.items }
     ensures goes_on { GoesOn (C.state ctx.old) (C.state ctx.new) }
     ensures tells { IfOk result (TellsGoal (C.state ctx.old) (C.state ctx.new) rules.now param_env goal.now) }
+    ensures remembers { let d = C.state ctx.new in
+        IfOk result (λ r. RemembersMore d rules.now param_env asked.old.proved.items asked.new.proved.items) }
 {
     if depth == 0 {
         return Ok(Told::Maybe(Why::Depth));
     }
     let one = comes_to_one(ctx, goal)?;
-    if spent.spends(&one, depth) {
-        return Ok(Told::Maybe(Why::Depth));
+    if let Some(told) = asked.find(&one, depth) {
+        return Ok(told);
     }
     let enough = one.is_some();
-    let told = follows_by_some(ctx, rules, param_env, goal, enough, depth - 1, span, spent)?;
-    spent.insert(one, &told, depth)?;
+    let read = one.unwrap_or(*goal);
+    let told = follows_by_some(ctx, rules, param_env, &read, enough, depth - 1, span, asked)?;
+    asked.insert(one, &told, depth)?;
     Ok(told)
 }
 
@@ -120,13 +126,16 @@ fn follows_by_some<C: KeepsRecord>(
     enough: bool,
     depth: usize,
     span: Span<C::Interner>,
-    spent: &mut SpentGoals<Clause<C::Interner>>,
+    asked: &mut AskedGoals<Clause<C::Interner>>,
 ) -> RelateResult<C::Interner, ToldOf<C::Interner>>
     requires may { MayProve (C.state ctx.old) rules.now param_env }
     requires goal { MayAsk (C.state ctx.old) goal.now }
     requires one { let c = C.state ctx.old in IsTrue enough → HasOneValue c.store ((c.meaning).clause goal.now) }
+    requires remembers { RemembersAll (C.state ctx.old) rules.now param_env asked.old.proved.items }
     ensures goes_on { GoesOn (C.state ctx.old) (C.state ctx.new) }
     ensures tells { IfOk result (TellsGoal (C.state ctx.old) (C.state ctx.new) rules.now param_env goal.now) }
+    ensures remembers { let d = C.state ctx.new in
+        IfOk result (λ r. RemembersMore d rules.now param_env asked.old.proved.items asked.new.proved.items) }
 {
     let mut search = Search::Nothing(None);
     for (place, rule) in rules.iter().enumerate() {
@@ -134,14 +143,15 @@ fn follows_by_some<C: KeepsRecord>(
             return Ok(settle(ctx, search));
         }
         let tried = try_and_put_back(
-            ctx, rules, param_env, *rule, place, goal, depth, span, spent,
+            ctx, rules, param_env, *rule, place, goal, enough, depth, span, asked,
         )?;
-        search = with_tried(search, place, tried, enough);
+        search = with_tried(search, place, tried);
     }
     Ok(settle(ctx, search))
 }
 
-// Tries a rule, and puts the record back. One that gives another trait or form is passed over.
+// Tries a rule, and puts the record back, unless the goal follows by it and that is enough. One that gives another trait
+// or form is passed over.
 #[cycle(proving)]
 fn try_and_put_back<C: KeepsRecord>(
     ctx: &mut C,
@@ -150,26 +160,35 @@ fn try_and_put_back<C: KeepsRecord>(
     rule: RuleOf<C::Interner>,
     place: usize,
     goal: &Clause<C::Interner>,
+    enough: bool,
     depth: usize,
     span: Span<C::Interner>,
-    spent: &mut SpentGoals<Clause<C::Interner>>,
+    asked: &mut AskedGoals<Clause<C::Interner>>,
 ) -> RelateResult<C::Interner, TriedOf<C::Record, C::Interner>>
     requires may { MayProve (C.state ctx.old) rules.now param_env }
     requires rule { MayUse (C.state ctx.old) rule }
     requires place { place < length rules.now }
     requires goal { MayAsk (C.state ctx.old) goal.now }
+    requires remembers { RemembersAll (C.state ctx.old) rules.now param_env asked.old.proved.items }
     ensures goes_on { GoesOn (C.state ctx.old) (C.state ctx.new) }
-    ensures back { IfOk result (λ r. IsBack (C.state ctx.old) (C.state ctx.new)) }
+    ensures back { IfOk result (IsBackUnless enough (C.state ctx.old) (C.state ctx.new)) }
     ensures tells { let c = C.state ctx.old in
         IfOk result (TellsTried C.state C.with_record c ctx.new rules.now param_env rule goal.now) }
+    ensures remembers { let d = C.state ctx.new in
+        IfOk result (λ r. RemembersMore d rules.now param_env asked.old.proved.items asked.new.proved.items) }
 {
     if is_passed_over(&*ctx, &rule, goal) {
         return Ok(Tried::Fails(None));
     }
     let before = ctx.keep()?;
-    let told = follows_by(ctx, rules, param_env, rule, place, goal, depth, span, spent)?;
+    let proved = asked.len();
+    let told = follows_by(ctx, rules, param_env, rule, place, goal, depth, span, asked)?;
+    if is_left(&told, enough) {
+        return Ok(Tried::Stays);
+    }
     let tried = keep_told(&*ctx, told)?;
     ctx.put_back(before);
+    asked.truncate(proved);
     Ok(tried)
 }
 
@@ -184,17 +203,20 @@ fn follows_by<C: KeepsRecord>(
     goal: &Clause<C::Interner>,
     depth: usize,
     span: Span<C::Interner>,
-    spent: &mut SpentGoals<Clause<C::Interner>>,
+    asked: &mut AskedGoals<Clause<C::Interner>>,
 ) -> RelateResult<C::Interner, VerdictOf<C::Interner>>
     requires may { MayProve (C.state ctx.old) rules.now param_env }
     requires rule { MayUse (C.state ctx.old) rule }
     requires place { place < length rules.now }
     requires goal { MayAsk (C.state ctx.old) goal.now }
+    requires remembers { RemembersAll (C.state ctx.old) rules.now param_env asked.old.proved.items }
     ensures goes_on { GoesOn (C.state ctx.old) (C.state ctx.new) }
     ensures tells { IfOk result (TellsRule (C.state ctx.old) (C.state ctx.new) rules.now param_env rule goal.now) }
+    ensures remembers { let d = C.state ctx.new in
+        IfOk result (λ r. RemembersMore d rules.now param_env asked.old.proved.items asked.new.proved.items) }
 {
     match try_rule(ctx, param_env, rule, goal, span)? {
-        Candidate::Asks(asks) => all_follow(ctx, rules, param_env, asks, place, depth, span, spent),
+        Candidate::Asks(asks) => all_follow(ctx, rules, param_env, asks, place, depth, span, asked),
         Candidate::Apart => Ok(Verdict::Refuted(None)),
         Candidate::Unclear => Ok(Verdict::Untold(Why::Ambiguous)),
     }
@@ -210,17 +232,20 @@ fn all_follow<C: KeepsRecord>(
     place: usize,
     depth: usize,
     span: Span<C::Interner>,
-    spent: &mut SpentGoals<Clause<C::Interner>>,
+    asked: &mut AskedGoals<Clause<C::Interner>>,
 ) -> RelateResult<C::Interner, VerdictOf<C::Interner>>
     requires may { MayProve (C.state ctx.old) rules.now param_env }
     requires asks { All (MayAsk (C.state ctx.old)) asks.items }
     requires place { place < length rules.now }
+    requires remembers { RemembersAll (C.state ctx.old) rules.now param_env asked.old.proved.items }
     ensures goes_on { GoesOn (C.state ctx.old) (C.state ctx.new) }
     ensures tells { IfOk result (TellsAll (C.state ctx.old) (C.state ctx.new) rules.now param_env asks.items) }
+    ensures remembers { let d = C.state ctx.new in
+        IfOk result (λ r. RemembersMore d rules.now param_env asked.old.proved.items asked.new.proved.items) }
 {
     let mut left = asks;
     'rounds: while !left.is_empty() {
-        match one_follows(ctx, rules, param_env, &left, place, depth, span, spent)? {
+        match one_follows(ctx, rules, param_env, &left, place, depth, span, asked)? {
             Round::Proved(number) => {
                 left.remove(number);
             }
@@ -242,13 +267,16 @@ fn one_follows<C: KeepsRecord>(
     by: usize,
     depth: usize,
     span: Span<C::Interner>,
-    spent: &mut SpentGoals<Clause<C::Interner>>,
+    asked: &mut AskedGoals<Clause<C::Interner>>,
 ) -> RelateResult<C::Interner, RoundOf<C::Interner>>
     requires may { MayProve (C.state ctx.old) rules.now param_env }
     requires goals { All (MayAsk (C.state ctx.old)) goals.now }
     requires by { by < length rules.now }
+    requires remembers { RemembersAll (C.state ctx.old) rules.now param_env asked.old.proved.items }
     ensures goes_on { GoesOn (C.state ctx.old) (C.state ctx.new) }
     ensures tells { IfOk result (TellsRound (C.state ctx.old) (C.state ctx.new) rules.now param_env goals.now) }
+    ensures remembers { let d = C.state ctx.new in
+        IfOk result (λ r. RemembersMore d rules.now param_env asked.old.proved.items asked.new.proved.items) }
 {
     let mut why = Why::Ambiguous;
     for of_variable in [false, true] {
@@ -256,7 +284,7 @@ fn one_follows<C: KeepsRecord>(
             if is_of_variable(&*ctx, goal) != of_variable {
                 continue;
             }
-            match follows(ctx, rules, param_env, goal, depth, span, spent)? {
+            match follows(ctx, rules, param_env, goal, depth, span, asked)? {
                 Told::Yes(_) => return Ok(Round::Proved(place)),
                 Told::No(named) => {
                     let blame = blame_of(ctx, rules, named, goal, by)?;
