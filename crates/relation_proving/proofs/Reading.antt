@@ -1,14 +1,15 @@
 -- A goal that is read by what is recorded: what is told of what it is read as is told of it.
-use Rattle.std.proofs.Common.{◌≡◌, ℕ, List, [], refl, sym, ◌∙◌, ap, subst, subst₂, All, not, Bool, true, IsTrue}
-use Rattle.std.specs.List.{AllZip}
-use Rattle.std.specs.Prelude.{IfOk, Result, Ok, Err}
+use Rattle.std.proofs.Common.{◌≡◌, ℕ, List, [], sym, ◌∙◌, ap, subst, subst₂, All, Bool, Option, Some, None, IsTrue}
+use Rattle.std.specs.Prelude.{is_some}
+use Rattle.std.specs.Option.{unwrap_or}
+use Rattle.std.proofs.lemmas.Bool.{true≢false}
 use Rattle.relation_terms.specs.declared.terms.binder.Binder.{Binder}
 use Rattle.relation_terms.specs.declared.terms.keys.ClauseKey.{ClauseKey}
 use Rattle.relation_terms.specs.declared.terms.keys.ClausesKey.{ClausesKey}
 use Rattle.relation_terms.specs.declared.terms.keys.ParamEnvKey.{ParamEnvKey}
-use Rattle.relation_terms.specs.Heads.{VarKind, variable, projection, alias_term, arguments}
-use Rattle.relation_terms.specs.Trees.{Tree, leaf, node, bind, nil, cons, Assign, apply, inst, known}
-use Rattle.relation_folds.specs.Visits.{non_region_infer_stands}
+use Rattle.relation_terms.specs.Erasure.{erase}
+use Rattle.relation_terms.specs.Heads.{projection, alias_term, arguments}
+use Rattle.relation_terms.specs.Trees.{Tree, node, bind, nil, cons, Assign, apply, inst, known}
 use Rattle.relation_semantics.specs.Bound.{IsWellBound}
 use Rattle.relation_semantics.specs.ContextCalls.{BindingsAreWellBound}
 use Rattle.relation_semantics.specs.Contexts.{Context, KnowsEnv}
@@ -22,13 +23,12 @@ use Rattle.relation_semantics.proofs.Standing.{term_context}
 use Rattle.relation_semantics.proofs.StoreCalls.{resolved_resolves, resolved_in}
 use Rattle.relation_solver.specs.Rules.{Rule, Meets, DerivesBy}
 use Rattle.relation_solver.specs.Traces.{Did, goal, yes, no, HasOneValue, read_yes, read_no, IsReadOf, ProvesBy, by_opening, was_by}
-use Rattle.relation_proving.specs.Candidates.{MayAsk, IsFirstOrderAt, IsFirstOrderBody, IsFirstOrderClause}
-use Rattle.relation_proving.specs.RuleTerms.{MayUse, IsRuleOf}
-use Rattle.relation_proving.specs.Telling.{IsBack, IsExact, IsReadAsOne, goal_tree, rule_at, TellsGoal, IsProvedBy}
+use Rattle.relation_proving.specs.Candidates.{MayAsk, IsFirstOrderBody, IsFirstOrderClause}
+use Rattle.relation_proving.specs.RuleTerms.{MayUse}
+use Rattle.relation_proving.specs.Telling.{IsBack, IsExact, ComesToGoal, ComesToOne, goal_tree, rule_at, TellsGoal, IsProvedBy}
 use Rattle.relation_proving.specs.declared.told.Told.{Told}
 use Rattle.relation_proving.specs.declared.told.Told.TheVariants.{Yes, No, Maybe}
-use Rattle.relation_proving.proofs.GoingOn.{back_through, back_goes, rules_on, exact_back}
-use Rattle.relation_proving.proofs.OneValue.{is_one}
+use Rattle.relation_proving.proofs.GoingOn.{back_through, back_goes, rules_on, exact_back, ask_on, goal_stays}
 use Rattle.relation_proving.proofs.WellBound.{resolved_by_lists}
 
 -- A first-order body that comes to another is one.
@@ -50,36 +50,46 @@ module _ (st : Store) (g : IsSound st) (simple : IsFirstOrderStore st) where
 
 module _ {Key Id Name : Type 0} where
   -- It is read as itself, or as what it comes to.
-  pub read_itself : (c : Context Key Id Name) (g : ClauseKey Key) → MayAsk c g → (b : Bool) →
-      b ≡ non_region_infer_stands (goal_tree c g) → not b ≡ true → IsReadAsOne c c g g
-  read_itself c g may b e h = record {
-    may_ask = may;
-    same_value = λ w s sat. refl;
-    same_erased = λ s sol. refl;
-    first_order = λ simple f. f;
-    one = is_one c.store (goal_tree c g) b may.is_in e h;
-  }
+  pub read_itself : (c d : Context Key Id Name) → IsBack c d → (g : ClauseKey Key) → MayAsk c g → ComesToGoal c d g g
+  read_itself c d back g may =
+      let same = goal_stays c d (back_goes c d back) g may in
+      record {
+        may_ask = ask_on c d (back_goes c d back) g may;
+        same_value = λ w s sat. ap (apply s) same;
+        same_erased = λ s sol. ap (λ z. erase (apply s z)) same;
+        first_order = λ simple f. subst IsFirstOrderClause (sym same) f;
+      }
 
   pub read_resolved : (c d : Context Key Id Name) → IsSound c.store → BindingsAreWellBound c.store → IsBack c d →
       (g k : ClauseKey Key) → MayAsk c g → IsTrue (known (goal_tree d k)) →
-      goal_tree d k ≡ apply (resolved c.store) (goal_tree c g) → (b : Bool) →
-      b ≡ non_region_infer_stands (goal_tree d k) → not b ≡ true → IsReadAsOne c d g k
-  read_resolved c d sound lists back g k may is_known comes b e h =
+      goal_tree d k ≡ apply (resolved c.store) (goal_tree c g) → ComesToGoal c d g k
+  read_resolved c d sound lists back g k may is_known comes =
       let r = resolved_resolves c.store (goal_tree c g) sound in
-      let is_in = subst (IsTermIn c.store) (sym comes) (resolved_in c.store sound (goal_tree c g) may.is_in) in
-      let in_then = subst (λ z. IsTermIn z (goal_tree d k)) (sym (back.same).store) is_in in
       record {
         may_ask = record {
           is_known = is_known;
-          is_in = in_then;
+          is_in = subst (λ z. IsTermIn z (goal_tree d k)) (sym (back.same).store) (subst (IsTermIn c.store) (sym comes)
+              (resolved_in c.store sound (goal_tree c g) may.is_in));
           taken = subst IsWellBound (sym comes) (resolved_by_lists c.store sound lists (goal_tree c g) may.taken);
         };
         same_value = λ w s sat. ap (apply s) comes ∙ r.same_value w s sat;
         same_erased = λ s sol. subst (λ z. Unifies s z (goal_tree c g)) (sym comes) (r.same_erased s sol);
         first_order = λ simple f.
             subst IsFirstOrderClause (sym comes) (clause_comes c.store sound simple (goal_tree c g) f);
-        one = is_one d.store (goal_tree d k) b in_then e h;
       }
+
+  -- So it is of what is asked, where what it comes to was found.
+  pub read_as : (c d : Context Key Id Name) → IsBack c d → (g : ClauseKey Key) → MayAsk c g →
+      (one : Option (ClauseKey Key)) → ComesToOne c d g one → (k : ClauseKey Key) → k ≡ unwrap_or one g →
+      ComesToGoal c d g k
+  read_as c d back g may (Some x) h k e = subst (ComesToGoal c d g) (sym e) h.is_read
+  read_as c d back g may None h k e = subst (ComesToGoal c d g) (sym e) (read_itself c d back g may)
+
+  pub read_one : (c d : Context Key Id Name) (g : ClauseKey Key) (one : Option (ClauseKey Key)) → ComesToOne c d g one →
+      (k : ClauseKey Key) → k ≡ unwrap_or one g → (enough : Bool) → enough ≡ is_some one → IsTrue enough →
+      HasOneValue d.store (goal_tree d k)
+  read_one c d g (Some x) h k e enough q i = subst (λ z. HasOneValue d.store (goal_tree d z)) (sym e) h.one
+  read_one c d g None h k e enough q i = absurd (true≢false (sym i ∙ q))
 
   -- What was proved by a rule of one of two terms that have the same values was of the other.
   proved_read : (its : Items) (env : Tree) (u : ℕ) (rs : List Rule) (before : Store) (t t' : Tree) →
@@ -104,7 +114,7 @@ module _ {Key Id Name : Type 0} where
 
   module _ (c d e : Context Key Id Name) (b : IsBack c d) (ks : List (Binder Key (ClausesKey Key)))
       (env : ParamEnvKey Key) (known_env : KnowsEnv c env) (uses : All (MayUse c) ks) (g k : ClauseKey Key)
-      (r : IsReadAsOne c d g k) where
+      (r : ComesToGoal c d g k) where
     exact_then : (u : ℕ) (rs : List Rule) → IsExact u c ks rs → IsExact u d ks rs
     exact_then u rs x = exact_back c d b ks u rs uses x
 
@@ -143,8 +153,3 @@ module _ {Key Id Name : Type 0} where
       t.2,
     )
     read_tells (Maybe why) t = back_through c d e b t
-
-    pub read_result : {F : Type 0} (result : Result (Told Key) F) → IfOk result (TellsGoal d e ks env k) →
-        IfOk result (TellsGoal c e ks env g)
-    read_result (Ok told) t = read_tells told t
-    read_result (Err f) t = tt

@@ -1,6 +1,7 @@
 -- What is remembered of goals that were proved.
 use Rattle.std.proofs.Common.{◌≡◌, ℕ, ◌<◌, List, [], ◌∷◌, ◌++◌, refl, sym, ◌∙◌, ap, subst, subst₂, All, length, take, IsTrue}
-use Rattle.std.proofs.Common.{Bool, append_assoc, append-nil}
+use Rattle.std.proofs.Common.{Bool, append_assoc, append-nil, Option, Some, None}
+use Rattle.std.specs.Option.{unwrap_or}
 use Rattle.std.specs.List.{AllZip}
 use Rattle.std.proofs.lemmas.List.Elements.{All-nil, All-push, All-contains}
 use Rattle.std.proofs.Math.Seq.{take-append_seam}
@@ -26,11 +27,12 @@ use Rattle.relation_solver.proofs.Deriving.{derived_by_in, follows_in, proofs_de
 use Rattle.relation_solver.proofs.Solving.{yes_is_sound}
 use Rattle.relation_proving.specs.Candidates.{MayAsk, IsFirstOrderClause}
 use Rattle.relation_proving.specs.RuleTerms.{MayUse, IsRuleOf}
-use Rattle.relation_proving.specs.Remembering.{proved_with, Remembers, RemembersAll, RemembersMore}
-use Rattle.relation_proving.specs.Telling.{GoesOn, IsExact, goal_tree, rule_at, TellsGoal}
+use Rattle.relation_proving.specs.Remembering.{TellsAgain, proved_with, Remembers, RemembersAll, RemembersMore}
+use Rattle.relation_proving.specs.Telling.{GoesOn, IsBack, IsExact, ComesToOne, goal_tree, rule_at, TellsGoal}
 use Rattle.relation_proving.specs.declared.told.Told.{Told}
 use Rattle.relation_proving.specs.declared.told.Told.TheVariants.{Yes, No, Maybe}
 use Rattle.relation_proving.proofs.GoingOn.{rules_before, exact_before}
+use Rattle.relation_proving.proofs.Reading.{read_tells}
 
 module _ {Key Id Name : Type 0} (ks : List (Binder Key (ClausesKey Key))) (env : ParamEnvKey Key) where
   -- What is remembered stands in a later context.
@@ -83,10 +85,9 @@ module _ {Key Id Name : Type 0} (ks : List (Binder Key (ClausesKey Key))) (env :
 
   module _ (c : Context Key Id Name) where
     -- A goal that equals one that is remembered follows, and nothing more is recorded.
-    pub found_tells : (eq : ClauseKey Key → ClauseKey Key → Bool) →
-        AreEqualAsTrees (c.meaning).clause eq → (g : ClauseKey Key) → MayAsk c g → (i : ℕ)
-        (ps : List (ClauseKey Key × ℕ)) → RemembersAll c ks env ps → Finds eq g i ps →
-        TellsGoal c c ks env g (Yes i)
+    found_tells : (eq : ClauseKey Key → ClauseKey Key → Bool) → AreEqualAsTrees (c.meaning).clause eq →
+        (g : ClauseKey Key) → MayAsk c g → (i : ℕ) (ps : List (ClauseKey Key × ℕ)) → RemembersAll c ks env ps →
+        Finds eq g i ps → TellsGoal c c ks env g (Yes i)
     found_tells eq equal g may i ps all f =
         let r = All-contains (Remembers c ks env) ps (f.key, i) all f.is_in in
         let same = (equal g f.key may.is_known r.is_known).0 f.same in (
@@ -104,15 +105,22 @@ module _ {Key Id Name : Type 0} (ks : List (Binder Key (ClausesKey Key))) (env :
     pub same_all : (ps : List (ClauseKey Key × ℕ)) → RemembersAll c ks env ps → RemembersMore c ks env ps ps
     same_all ps h = record { more = []; behind = sym (append-nil ps); all = h }
 
+  -- What is told again of a goal is so.
+  pub again_read : (c d : Context Key Id Name) (b : IsBack c d) → KnowsEnv c env → All (MayUse c) ks →
+      (eq : ClauseKey Key → ClauseKey Key → Bool) → AreEqualAsTrees (d.meaning).clause eq → (g : ClauseKey Key) →
+      MayAsk c g → (found : Option (ClauseKey Key)) → ComesToOne c d g found → (ps : List (ClauseKey Key × ℕ)) →
+      RemembersAll d ks env ps → (told : Told Key) → TellsAgain eq found ps told → TellsGoal c d ks env g told
+  again_read c d b known_env uses eq equal g may (Some k) r ps all (Yes i) f =
+      read_tells c d d b ks env known_env uses g k r.is_read (Yes i)
+      (found_tells d eq equal k (r.is_read).may_ask i ps all f)
+  again_read c d b known_env uses eq equal g may None r ps all (Yes i) f = absurd f
+  again_read c d b known_env uses eq equal g may found r ps all (No named) f = absurd f
+  again_read c d b known_env uses eq equal g may found r ps all (Maybe why) f = b
+
   -- Nothing more is remembered in a later context.
   pub all_still : (c d : Context Key Id Name) → GoesOn c d → KnowsEnv c env → All (MayUse c) ks →
       (ps : List (ClauseKey Key × ℕ)) → RemembersAll c ks env ps → RemembersMore d ks env ps ps
   all_still c d on known_env uses ps h = same_all d ps (all_on c d on known_env uses ps h)
-
-  pub still_all : (c d : Context Key Id Name) → GoesOn c d → KnowsEnv c env → All (MayUse c) ks →
-      (ps qs : List (ClauseKey Key × ℕ)) → qs ≡ ps → RemembersAll c ks env ps → RemembersMore d ks env ps qs
-  still_all c d on known_env uses ps qs e h =
-      subst (RemembersMore d ks env ps) (sym e) (all_still c d on known_env uses ps h)
 
   pub more_on : (c d : Context Key Id Name) → GoesOn c d → KnowsEnv c env → All (MayUse c) ks →
       (ps qs : List (ClauseKey Key × ℕ)) → RemembersMore c ks env ps qs → RemembersMore d ks env ps qs
@@ -128,18 +136,27 @@ module _ {Key Id Name : Type 0} (ks : List (Binder Key (ClausesKey Key))) (env :
   }
 
   -- One goal more, if it was proved.
-  pub told_more : (c d : Context Key Id Name) → GoesOn c d → KnowsEnv c env → All (MayUse c) ks → (g : ClauseKey Key) →
-      MayAsk c g → (told : Told Key) → TellsGoal c d ks env g told → (ps qs : List (ClauseKey Key × ℕ)) →
-      RemembersMore d ks env ps qs → RemembersMore d ks env ps (proved_with g told qs)
-  told_more c d on known_env uses g may (Yes i) t ps qs m = record {
-    more = m.more ++ (g, i) ∷ [];
-    behind = ap (λ z. z ++ (g, i) ∷ []) m.behind ∙ append_assoc ps m.more ((g, i) ∷ []);
-    all = All-push (Remembers d ks env) qs (g, i) m.all (proved_is c d on known_env uses g i may t);
+  pub told_more : (c d : Context Key Id Name) → GoesOn c d → KnowsEnv c env → All (MayUse c) ks →
+      (found : Option (ClauseKey Key)) (k g : ClauseKey Key) → k ≡ unwrap_or found g → MayAsk c k → (told : Told Key) →
+      TellsGoal c d ks env k told → (ps qs : List (ClauseKey Key × ℕ)) → RemembersMore d ks env ps qs →
+      RemembersMore d ks env ps (proved_with found told qs)
+  told_more c d on known_env uses (Some x) k g e may (Yes i) t ps qs m = record {
+    more = m.more ++ (x, i) ∷ [];
+    behind = ap (λ z. z ++ (x, i) ∷ []) m.behind ∙ append_assoc ps m.more ((x, i) ∷ []);
+    all = All-push (Remembers d ks env) qs (x, i) m.all (subst (λ z. Remembers d ks env (z, i)) e
+        (proved_is c d on known_env uses k i may t));
   }
-  told_more c d on known_env uses g may (No named) t ps qs m = m
-  told_more c d on known_env uses g may (Maybe why) t ps qs m = m
+  told_more c d on known_env uses None k g e may (Yes i) t ps qs m = m
+  told_more c d on known_env uses (Some x) k g e may (No named) t ps qs m = m
+  told_more c d on known_env uses (Some x) k g e may (Maybe why) t ps qs m = m
+  told_more c d on known_env uses None k g e may (No named) t ps qs m = m
+  told_more c d on known_env uses None k g e may (Maybe why) t ps qs m = m
 
-  -- What was remembered first is left.
-  pub first_left : (d : Context Key Id Name) (ps qs : List (ClauseKey Key × ℕ)) → RemembersMore d ks env ps qs →
-      take (length ps) qs ≡ ps
-  first_left d ps qs m = ap (take (length ps)) m.behind ∙ take-append_seam ps m.more
+  -- What was remembered first is left, and stands in a later context.
+  pub first_still : (c e : Context Key Id Name) → GoesOn c e → KnowsEnv c env → All (MayUse c) ks →
+      (ps : List (ClauseKey Key × ℕ)) → RemembersAll c ks env ps → (d : Context Key Id Name)
+      (qs : List (ClauseKey Key × ℕ)) → RemembersMore d ks env ps qs → (n : ℕ) → n ≡ length ps →
+      (left : List (ClauseKey Key × ℕ)) → left ≡ take n qs → RemembersMore e ks env ps left
+  first_still c e on known_env uses ps h d qs m n q left r =
+      subst (RemembersMore e ks env ps) (sym (r ∙ (ap (λ z. take z qs) q ∙ (ap (take (length ps)) m.behind ∙
+      take-append_seam ps m.more)))) (all_still c e on known_env uses ps h)

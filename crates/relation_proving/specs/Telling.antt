@@ -6,7 +6,7 @@
 --   IsExact u c ks rs            the rules and what is recorded are first-order, and these are the rules' trees
 --   KnowsBlame d ks b            the goal to which a no is due is known, and one of the rules asked for it
 --   rule_at rs n                 which rule a place's key is, as a tree
---   IsReadAs c d g k             a goal is read as another one
+--   ComesToGoal c d g k          a goal comes to another one by what is recorded
 --   ComesToOne c d g found       a goal comes to this, in which no variable but of regions stands
 --   IsProved c d ks e rs q       what was asked was proved, and no goal is left
 --   IsProvedBy c d ks e rs r g   a goal was proved by a rule
@@ -81,7 +81,7 @@ module _ {Key Id Name : Type 0} where
   goal_tree c g = (c.meaning).clause g
 
   -- A goal is read as another one by what is recorded: each assignment makes one of both.
-  pub record IsReadAs (c d : Context Key Id Name) (g k : ClauseKey Key) : Type 0 where
+  pub record ComesToGoal (c d : Context Key Id Name) (g k : ClauseKey Key) : Type 0 where
     pub may_ask : MayAsk d k
     pub same_value : (w : Interpretation) (s : Assign) → Satisfies w c.store s →
         apply s (goal_tree d k) ≡ apply s (goal_tree c g)
@@ -92,7 +92,7 @@ module _ {Key Id Name : Type 0} where
   -- Of what it is read as all solutions make one thing, up to erasure.
   module _ (c d : Context Key Id Name) (g : ClauseKey Key) where
     pub record IsOne (k : ClauseKey Key) : Type 0 where
-      pub is_read : IsReadAs c d g k
+      pub is_read : ComesToGoal c d g k
       pub one : HasOneValue d.store (goal_tree d k)
 
     abbrev pub ComesToOne : Option (ClauseKey Key) → Type 0
