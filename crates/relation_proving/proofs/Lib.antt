@@ -12,7 +12,7 @@ pub mod Barred
 pub mod OtherSubjects
 pub mod Searches
 pub mod WellBound
-pub mod Reading
+pub mod ReadGoals
 pub mod Remembered
 pub mod Meaning
 pub mod Checked

@@ -32,7 +32,7 @@ use Rattle.relation_proving.specs.Telling.{GoesOn, IsBack, IsExact, ComesToOne, 
 use Rattle.relation_proving.specs.declared.told.Told.{Told}
 use Rattle.relation_proving.specs.declared.told.Told.TheVariants.{Yes, No, Maybe}
 use Rattle.relation_proving.proofs.GoingOn.{rules_before, exact_before}
-use Rattle.relation_proving.proofs.Reading.{read_tells}
+use Rattle.relation_proving.proofs.ReadGoals.{read_tells}
 
 module _ {Key Id Name : Type 0} (ks : List (Binder Key (ClausesKey Key))) (env : ParamEnvKey Key) where
   -- What is remembered stands in a later context.

@@ -1,5 +1,5 @@
 -- Binders that bind by their lists, in what terms come to.
-use Rattle.std.proofs.Common.{◌≡◌, ℕ, zero, suc, ◌≤◌, refl, sym, ap, ◌∙◌, subst, Some, List, arith}
+use Rattle.std.proofs.Common.{◌≡◌, ℕ, zero, suc, ◌<◌, ◌≤◌, refl, sym, ap, ◌∙◌, subst, Some, List, arith}
 use Rattle.relation_terms.specs.Heads.{BoundKind, VarKind}
 use Rattle.relation_terms.specs.Heads.{variable, bound, placeholder, atom, unknown}
 use Rattle.relation_terms.specs.Trees.{Tree, leaf, node, bind, nil, cons, Assign, apply}
@@ -14,7 +14,7 @@ use Rattle.relation_semantics.proofs.Resolved.{resolve_free, resolve_bound, HasT
 -- A binder further out than `d` steps binds nothing in what stays within them, and so binds by any list there.
 within_bound : (ks : List BoundKind) (d e : ℕ) (t : Tree) → StaysWithin d t → d ≤ e → AreBoundAs ks e t
 within_bound ks d e (leaf (variable k n)) s l = tt
-within_bound ks d e (leaf (bound k c i)) s l = λ q. absurd (omega (arith, s, l, q))
+within_bound ks d e (leaf (bound k c i)) s l = λ q. let below : c < d = s in absurd (omega (arith, below, l, q))
 within_bound ks d e (leaf (placeholder k u n)) s l = tt
 within_bound ks d e (leaf (atom x)) s l = tt
 within_bound ks d e (leaf unknown) s l = tt

@@ -35,12 +35,13 @@ use relation_terms::terms::{Clause, Interner, ParamEnv, Span};
 /// depth, in rounds, what says something of a variable last: what isn't told of a goal is asked again once another was
 /// proved. It is `Yes` where the goal follows by one rule alone and no other is left, and, where no variable but of
 /// regions stands in what it comes to by what is recorded, by the first rule by which it follows; the record is then
-/// what that one leaves, and the answer has its place. Where more than one rule is left it is `Maybe(Ambiguous)`, and
-/// so it is where a binder that binds something, another predicate than that a trait is implemented or to what an
-/// alias comes, or a goal that relating leaves stands in the way; where the depth is spent, `Maybe(Depth)`, which
-/// counts first. A `No` names the goal that failed in the end, and the rule that asked for it, of the first rule that
-/// gives the goal; it names none where no rule does. An alias stands for itself, but where a goal or a rule says to
-/// what it comes.
+/// what that one leaves, and the answer has its place. A goal that was proved so is not proved again while that is
+/// recorded, however little is left of the depth. Where more than one rule is left it is `Maybe(Ambiguous)`, and so it
+/// is where a binder that binds something, another predicate than that a trait is implemented or to what an alias
+/// comes, or a goal that relating leaves stands in the way; where the depth is spent, `Maybe(Depth)`, which counts
+/// first. A `No` names the goal that failed in the end, and the rule that asked for it, of the first rule that gives
+/// the goal; it names none where no rule does. An alias stands for itself, but where a goal or a rule says to what it
+/// comes.
 ///
 /// The interner has to know the environment, the rules and the goal, whose binders bind by their lists; their variables
 /// and placeholders are the context's. Where no variable stands in a rule, each assignment that satisfies what is

@@ -14,7 +14,7 @@ use Rattle.relation_proving.proofs.GoingOn.{goes_itself, goes_through, back_itse
 use Rattle.relation_proving.proofs.GoingOn.{uses_on, proves_on, ask_on, asks_on}
 use Rattle.relation_proving.proofs.Answering.{by_asks_result, by_apart, AsksOn, asking_begins, asking_ended}
 use Rattle.relation_proving.proofs.Answering.{asking_goes_on, asking_fails, round_proved, round_failed, named_known}
-use Rattle.relation_proving.proofs.Reading.{read_as, read_one, read_tells}
+use Rattle.relation_proving.proofs.ReadGoals.{read_as, read_one, read_tells}
 use Rattle.relation_proving.proofs.Remembered.{all_on, again_read, same_all, all_still, more_on, more_through, told_more}
 use Rattle.relation_proving.proofs.Remembered.{first_still}
 use Rattle.relation_proving.proofs.Searches.{Searches, search_begins, search_back, search_goes_on, search_ends, may_settle}

@@ -33,7 +33,7 @@ invariant-follows_by_some-loop-place g l = Searches g.C.InferCtxtLike.state g.C.
 abbrev pub invariant-all_follow-rounds : goal.invariant-all_follow-rounds
 invariant-all_follow-rounds g l = AsksOn (g.C.InferCtxtLike.state l.initial.ctx) (g.C.InferCtxtLike.state l.ctx) l.rules
     l.param_env l.fn.asks.items l.left.items ×
-    RemembersMore (g.C.InferCtxtLike.state l.ctx) l.rules l.param_env l.fn.asked.proved.items l.asked.proved.items
+    RemembersMore (g.C.InferCtxtLike.state l.ctx) l.rules l.param_env l.initial.asked.proved.items l.asked.proved.items
 
 abbrev pub decreases-all_follow-rounds : goal.decreases-all_follow-rounds
 decreases-all_follow-rounds g l = vec_len l.left

@@ -5,7 +5,7 @@ use Rattle.relation_folds.specs.Visits.{non_region_infer_stands}
 use Rattle.relation_proving.specs.Telling.{IsBack}
 use Rattle.relation_proving.proofs.GoingOn.{back_itself}
 use Rattle.relation_proving.proofs.OneValue.{is_one}
-use Rattle.relation_proving.proofs.Reading.{read_itself, read_resolved}
+use Rattle.relation_proving.proofs.ReadGoals.{read_itself, read_resolved}
 use Rattle.relation_proving.proofs.reading.comes_to_one.Goals as goal
 
 pub has_non_region_infer-requires : goal.has_non_region_infer-requires
