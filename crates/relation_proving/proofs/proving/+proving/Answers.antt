@@ -1,13 +1,12 @@
 -- What each call asks for and tells.
 use Rattle.std.proofs.Common.{rules, arith, ◌≤◌, ◌+◌, sym, subst, ◌∙◌, length, All}
-use Rattle.std.specs.Prelude.{IfSome}
 use Rattle.relation_terms.specs.Interning.{AreEqualAsTrees}
 use Rattle.kept_records.proofs.Kept.{may_put_back}
 use Rattle.relation_proving.specs.declared.searching.Round.TheVariants.{Proved, Failed}
 use Rattle.relation_proving.specs.Candidates.{MayAsk, TellsCandidate}
 use Rattle.relation_proving.specs.RuleTerms.{MayUse}
 use Rattle.relation_proving.proofs.Barred.{never_fails}
-use Rattle.relation_proving.specs.Remembering.{TellsAgain, RemembersMore}
+use Rattle.relation_proving.specs.Remembering.{RemembersMore}
 use Rattle.relation_proving.specs.Telling.{GoesOn, TellsGoal}
 use Rattle.relation_proving.specs.Searching.{TellsRound}
 use Rattle.relation_proving.proofs.GoingOn.{goes_itself, goes_through, back_itself, back_through, back_goes}
@@ -52,8 +51,7 @@ follows-returns-in-Some g t c =
     record {
       goes_on = on;
       tells = again_read c.args.rules.now c.args.param_env s d back c.requires.may.env_known c.requires.may.rules _ equal c.args.goal.now c.requires.goal c.in_ok-one.one
-          c.in_ok-one.ensures.one c.args.asked.now.proved.items known c.in-Some.told
-          (subst (λ z. IfSome z (TellsAgain _ c.in_ok-one.one c.args.asked.now.proved.items)) c.in-Some.is c.find.ensures);
+          c.in_ok-one.ensures.one c.args.asked.now.proved.items known c.in-Some.told c.in-Some.ensures;
       remembers = same_all c.args.rules.now c.args.param_env d c.args.asked.now.proved.items known;
     }
 
