@@ -102,7 +102,8 @@ pub(crate) fn with_tried<R: Drop, X: Copy>(
         Search::Stays(by) => Search::Stays(by),
         Search::Open(why) => match tried {
             Tried::Stays => Search::Stays(place),
-            Tried::Follows(_) | Tried::Fails(_) => Search::Open(why),
+            Tried::Follows(_) => Search::Open(why),
+            Tried::Fails(_) => Search::Open(why),
             Tried::Unclear(again) => Search::Open(worse(why, again)),
         },
     }
@@ -113,7 +114,8 @@ pub(crate) fn is_over<R, X: Copy>(search: &Search<R, X>, enough: bool) -> bool
     ensures { result ≡ ends enough search.now }
 {
     match search {
-        Search::Nothing(_) | Search::Found(..) => false,
+        Search::Nothing(_) => false,
+        Search::Found(..) => false,
         Search::Stays(_) => true,
         Search::Open(Why::Depth) => !enough,
         Search::Open(Why::Ambiguous) => false,
@@ -126,7 +128,8 @@ pub(crate) fn is_left<X>(told: &Verdict<X>, enough: bool) -> bool
 {
     match told {
         Verdict::Proven => enough,
-        Verdict::Refuted(_) | Verdict::Untold(_) => false,
+        Verdict::Refuted(_) => false,
+        Verdict::Untold(_) => false,
     }
 }
 
