@@ -74,11 +74,18 @@ impl<T: Eq + Hash + Copy> AskedGoals<T> {
     ) -> Result<(), OutOfMemory>
         ensures { OnOk result (self.new.proved.items ≡ proved_with goal told.now self.old.proved.items) }
     {
-        if let (Some(goal), Told::Yes(by)) = (goal, told) {
-            self.numbers.insert(goal, self.proved.len())?;
-            self.proved.push((goal, *by))?;
+        let Some(key) = goal else {
+            return Ok(());
+        };
+        match told {
+            Told::Yes(by) => {
+                self.numbers.insert(key, self.proved.len())?;
+                self.proved.push((key, *by))?;
+                Ok(())
+            }
+            Told::No(_) => Ok(()),
+            Told::Maybe(_) => self.spent.insert(goal, told, levels),
         }
-        self.spent.insert(goal, told, levels)
     }
 
     /// How many were proved.
