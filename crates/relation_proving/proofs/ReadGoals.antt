@@ -48,6 +48,27 @@ module _ (st : Store) (g : IsSound st) (simple : IsFirstOrderStore st) where
   clause_comes (bind [] t) f = body_comes t f
   clause_comes t f = absurd f
 
+-- What was proved by a rule of one of two terms that have the same values was of the other.
+proved_read : (its : Items) (env : Tree) (u : ℕ) (rs : List Rule) (before : Store) (t t' : Tree) →
+    ((w : Interpretation) (s : Assign) → Satisfies w before s → apply s t ≡ apply s t') → (after : Store) (r : Rule) →
+    ProvesBy its env u [] rs [] before after r t → ProvesBy its env u [] rs [] before after r t'
+proved_read its env u rs before t t' same after r (by_opening _ _ _ p) = by_opening after r t' (record {
+  there = p.there;
+  opened = p.opened;
+  middle = p.middle;
+  universe = p.universe;
+  is_named = p.is_named;
+  vars = p.vars;
+  opens = p.opens;
+  relates = λ w s sat holds. subst (λ z. Meets its w env z (apply s (inst p.vars 0 r.gives)))
+      (same w s ((p.opens).makes.later.shrinks w s (p.shrinks w s sat))) (p.relates w s sat holds);
+  shrinks = p.shrinks;
+  stands = p.stands;
+  asks = p.asks;
+})
+proved_read its env u rs before t t' same after r (was_by _ _ f) =
+    was_by r t' (λ w s h. subst (DerivesBy its w env u [] rs r) (same w s h) (f w s h))
+
 module _ {Key Id Name : Type 0} where
   -- It is read as itself, or as what it comes to.
   pub read_itself : (c d : Context Key Id Name) → IsBack c d → (g : ClauseKey Key) → MayAsk c g → ComesToGoal c d g g
@@ -90,27 +111,6 @@ module _ {Key Id Name : Type 0} where
       HasOneValue d.store (goal_tree d k)
   read_one c d g (Some x) h k e enough q i = subst (λ z. HasOneValue d.store (goal_tree d z)) (sym e) h.one
   read_one c d g None h k e enough q i = absurd (true≢false (sym i ∙ q))
-
-  -- What was proved by a rule of one of two terms that have the same values was of the other.
-  proved_read : (its : Items) (env : Tree) (u : ℕ) (rs : List Rule) (before : Store) (t t' : Tree) →
-      ((w : Interpretation) (s : Assign) → Satisfies w before s → apply s t ≡ apply s t') → (after : Store) (r : Rule) →
-      ProvesBy its env u [] rs [] before after r t → ProvesBy its env u [] rs [] before after r t'
-  proved_read its env u rs before t t' same after r (by_opening _ _ _ p) = by_opening after r t' (record {
-    there = p.there;
-    opened = p.opened;
-    middle = p.middle;
-    universe = p.universe;
-    is_named = p.is_named;
-    vars = p.vars;
-    opens = p.opens;
-    relates = λ w s sat holds. subst (λ z. Meets its w env z (apply s (inst p.vars 0 r.gives)))
-        (same w s ((p.opens).makes.later.shrinks w s (p.shrinks w s sat))) (p.relates w s sat holds);
-    shrinks = p.shrinks;
-    stands = p.stands;
-    asks = p.asks;
-  })
-  proved_read its env u rs before t t' same after r (was_by _ _ f) =
-      was_by r t' (λ w s h. subst (DerivesBy its w env u [] rs r) (same w s h) (f w s h))
 
   module _ (c d e : Context Key Id Name) (b : IsBack c d) (ks : List (Binder Key (ClausesKey Key)))
       (env : ParamEnvKey Key) (known_env : KnowsEnv c env) (uses : All (MayUse c) ks) (g k : ClauseKey Key)

@@ -79,7 +79,8 @@ impl<T: Eq + Hash + Copy> AskedGoals<T> {
         };
         match told {
             Told::Yes(by) => {
-                self.numbers.insert(key, self.proved.len())?;
+                let number = self.proved.len();
+                self.numbers.insert(key, number)?;
                 self.proved.push((key, *by))?;
                 Ok(())
             }
