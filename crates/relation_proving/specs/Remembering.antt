@@ -6,6 +6,7 @@
 --   Remembers c ks e p           whatever satisfies what is recorded makes a goal that was proved follow, by its rule
 --   RemembersAll c ks e ps       so it is of all
 --   RemembersMore d ks e ps qs   and others may stand behind those that there were
+--   MayGoOn c ks e ps            a goal may be proved, where this is remembered
 use Rattle.std.specs.Prelude.{◌≡◌, ℕ, ◌<◌, Bool, List, [], ◌∷◌, ◌++◌, All, length, Option, Some, None, IsTrue}
 use Rattle.std.specs.List.{AllZip}
 use Rattle.delayed_map.specs.Kept.{Finds}
@@ -22,7 +23,7 @@ use Rattle.relation_semantics.specs.Stores.{Satisfies}
 use Rattle.relation_solver.specs.Rules.{Rule, one, Follows, DerivesBy}
 use Rattle.relation_proving.specs.RuleTerms.{IsRuleOf}
 use Rattle.relation_proving.specs.Candidates.{IsFirstOrderClause}
-use Rattle.relation_proving.specs.Telling.{IsExact, goal_tree, rule_at}
+use Rattle.relation_proving.specs.Telling.{MayProve, IsExact, goal_tree, rule_at}
 use Rattle.relation_proving.specs.declared.told.Told.{Told}
 use Rattle.relation_proving.specs.declared.told.Told.TheVariants.{Yes, No, Maybe}
 
@@ -62,3 +63,8 @@ module _ {Key Id Name : Type 0} (c : Context Key Id Name) (ks : List (Binder Key
     pub more : List (ClauseKey Key × ℕ)
     pub behind : qs ≡ ps ++ more
     pub all : RemembersAll qs
+
+  -- A goal may be proved, where this is remembered.
+  pub record MayGoOn (ps : List (ClauseKey Key × ℕ)) : Type 0 where
+    pub may : MayProve c ks e
+    pub remembers : RemembersAll ps

@@ -85,7 +85,7 @@ impl<T: Eq + Hash + Copy> AskedGoals<T> {
                 Ok(())
             }
             Told::No(_) => Ok(()),
-            Told::Maybe(_) => self.spent.insert(goal, told, levels),
+            Told::Maybe(_) => self.spent.insert(Some(key), told, levels),
         }
     }
 

@@ -7,7 +7,7 @@ ghost use Rattle.relation_proving.specs.Candidates.{MayAsk};
 ghost use Rattle.relation_proving.specs.RuleTerms.{MayUse};
 ghost use Rattle.relation_proving.specs.Telling.{MayProve, GoesOn, TellsGoal, TellsAll, TellsRule};
 ghost use Rattle.relation_proving.specs.Searching.{IsBackUnless, TellsRound, TellsTried};
-ghost use Rattle.relation_proving.specs.Remembering.{RemembersAll, RemembersMore};
+ghost use Rattle.relation_proving.specs.Remembering.{MayGoOn, RemembersAll, RemembersMore};
 ghost use Rattle.relation_proving.specs.Answers.{YesDerives, YesIsBy, YesMakesFollow, YesLosesNone};
 ghost use Rattle.relation_proving.specs.Answers.{NoFollowsNever, NoNamesKnown, YesStaysFirstOrder, LeavesNothing};
 
@@ -166,11 +166,10 @@ fn try_and_put_back<C: KeepsRecord>(
     span: Span<C::Interner>,
     asked: &mut AskedGoals<Clause<C::Interner>>,
 ) -> RelateResult<C::Interner, TriedOf<C::Record, C::Interner>>
-    requires may { MayProve (C.state ctx.old) rules.now param_env }
+    requires may { MayGoOn (C.state ctx.old) rules.now param_env asked.old.proved.items }
     requires rule { MayUse (C.state ctx.old) rule }
     requires place { place < length rules.now }
     requires goal { MayAsk (C.state ctx.old) goal.now }
-    requires remembers { RemembersAll (C.state ctx.old) rules.now param_env asked.old.proved.items }
     ensures goes_on { GoesOn (C.state ctx.old) (C.state ctx.new) }
     ensures back { IfOk result (IsBackUnless enough (C.state ctx.old) (C.state ctx.new)) }
     ensures tells { let c = C.state ctx.old in

@@ -6,7 +6,7 @@ use Rattle.relation_proving.specs.declared.searching.Round.TheVariants.{Proved, 
 use Rattle.relation_proving.specs.Candidates.{MayAsk, TellsCandidate}
 use Rattle.relation_proving.specs.RuleTerms.{MayUse}
 use Rattle.relation_proving.proofs.Barred.{never_fails}
-use Rattle.relation_proving.specs.Remembering.{RemembersMore}
+use Rattle.relation_proving.specs.Remembering.{MayGoOn, RemembersMore}
 use Rattle.relation_proving.specs.Telling.{GoesOn, TellsGoal}
 use Rattle.relation_proving.specs.Searching.{TellsRound}
 use Rattle.relation_proving.proofs.GoingOn.{goes_itself, goes_through, back_itself, back_through, back_goes}
@@ -45,12 +45,13 @@ follows-returns-in-Some g t c =
     let d = g.C.InferCtxtLike.state c.comes_to_one.new.ctx in
     let back = c.in_ok-one.ensures.back in
     let on = back_goes s d back in
-    let equal = subst (λ m. AreEqualAsTrees m.clause _) (sym (g.met.C.InferCtxtLike.reads c.comes_to_one.new.ctx))
+    let equal = subst (λ m. AreEqualAsTrees m.clause (λ k l. g.C.Interner.Key.PartialEq.eq k.0 l.0)) (sym (g.met.C.InferCtxtLike.reads c.comes_to_one.new.ctx))
     (g.met.C.Interner.Interner.same_clause (g.C.InferCtxtLike.interner c.comes_to_one.new.ctx)) in
     let known = all_on c.args.rules.now c.args.param_env s d on c.requires.may.env_known c.requires.may.rules c.args.asked.now.proved.items c.requires.remembers in
     record {
       goes_on = on;
-      tells = again_read c.args.rules.now c.args.param_env s d back c.requires.may.env_known c.requires.may.rules _ equal c.args.goal.now c.requires.goal c.in_ok-one.one
+      tells = again_read c.args.rules.now c.args.param_env s d back c.requires.may.env_known c.requires.may.rules
+          (λ k l. g.C.Interner.Key.PartialEq.eq k.0 l.0) equal c.args.goal.now c.requires.goal c.in_ok-one.one
           c.in_ok-one.ensures.one c.args.asked.now.proved.items known c.in-Some.told c.in-Some.ensures;
       remembers = same_all c.args.rules.now c.args.param_env d c.args.asked.now.proved.items known;
     }
@@ -121,7 +122,8 @@ follows_by_some-try_and_put_back-requires g t c κs within =
     c.loop-place-test.true in
     let usable = subst (λ k. MayUse d k) (sym c.index-rules-place.is) used in
     let ask = ask_on s d on c.args.goal.now c.requires.goal in
-    let known = c.loop-place.invariant.1.all in
+    let both : MayGoOn d c.args.rules.now c.args.param_env c.loop-place.asked.proved.items =
+    record { may = may; remembers = c.loop-place.invariant.1.all } in
     search rules
 
 pub follows_by_some-returns-in_err-tried-clause-goes_on : goal.follows_by_some-returns-in_err-tried-clause-goes_on
@@ -228,7 +230,7 @@ follows_by_some-returns g t c =
 -- A rule that is tried, and the record put back.
 pub try_and_put_back-is_passed_over-requires : goal.try_and_put_back-is_passed_over-requires
 try_and_put_back-is_passed_over-requires g t c = record {
-  lawful = c.requires.may.lawful;
+  lawful = c.requires.may.may.lawful;
   rule = c.requires.rule;
   goal = c.requires.goal;
 }
@@ -237,19 +239,19 @@ pub try_and_put_back-returns-then-is_passed_over : goal.try_and_put_back-returns
 try_and_put_back-returns-then-is_passed_over g t c =
     let s = g.C.InferCtxtLike.state c.args.ctx.now in
     record {
-      goes_on = goes_itself s c.requires.may.lawful;
-      back = back_itself s c.requires.may.lawful;
+      goes_on = goes_itself s c.requires.may.may.lawful;
+      back = back_itself s c.requires.may.may.lawful;
       tells = never_fails s s c.args.rules.now c.args.param_env c.args.rule c.args.goal.now
           (c.is_passed_over.ensures c.if-is_passed_over.true);
-      remembers = same_all c.args.rules.now c.args.param_env s c.args.asked.now.proved.items c.requires.remembers;
+      remembers = same_all c.args.rules.now c.args.param_env s c.args.asked.now.proved.items c.requires.may.remembers;
     }
 
 pub try_and_put_back-keep-requires : goal.try_and_put_back-keep-requires
-try_and_put_back-keep-requires g t c = record { lawful = c.requires.may.lawful }
+try_and_put_back-keep-requires g t c = record { lawful = c.requires.may.may.lawful }
 
 pub try_and_put_back-returns-in_err-before-clause-goes_on : goal.try_and_put_back-returns-in_err-before-clause-goes_on
 try_and_put_back-returns-in_err-before-clause-goes_on g t c =
-    goes_itself (g.C.InferCtxtLike.state c.args.ctx.now) c.requires.may.lawful
+    goes_itself (g.C.InferCtxtLike.state c.args.ctx.now) c.requires.may.may.lawful
 
 pub try_and_put_back-keep_told-requires : goal.try_and_put_back-keep_told-requires
 try_and_put_back-keep_told-requires g t c = record { lawful = c.in_ok-told.ensures.goes_on.lawful }
@@ -290,7 +292,7 @@ try_and_put_back-returns g t c =
           c.in_ok-tried.ensures c.args.enough s e back;
       tells = tried_tells state with_record s c.args.rules.now c.args.param_env c.args.rule c.args.goal.now c.follows_by.new.ctx
           c.put_back.new.self done.goes_on grown c.in_ok-told.told c.in_ok-tried.tried done.tells c.in_ok-tried.ensures;
-      remembers = first_still c.args.rules.now c.args.param_env s e (back_goes s e back) c.requires.may.env_known c.requires.may.rules c.args.asked.now.proved.items c.requires.remembers d
+      remembers = first_still c.args.rules.now c.args.param_env s e (back_goes s e back) c.requires.may.may.env_known c.requires.may.may.rules c.args.asked.now.proved.items c.requires.may.remembers d
           c.follows_by.new.asked.proved.items done.remembers c.len-proved.result c.len-proved.ensures
           c.truncate.new.self.proved.items c.truncate.ensures;
     }
@@ -343,6 +345,14 @@ follows_by-returns-in-Apart g t c =
           (subst (TellsCandidate s c.args.param_env c.args.rule c.args.goal.now d) c.in-Apart.is e.tells);
       remembers = all_still c.args.rules.now c.args.param_env s d on c.requires.may.env_known c.requires.may.rules c.args.asked.now.proved.items c.requires.remembers;
     }
+
+pub follows_by-returns-in-Unclear-clause-remembers : goal.follows_by-returns-in-Unclear-clause-remembers
+follows_by-returns-in-Unclear-clause-remembers g t c =
+    let e = c.in_ok-asks.ensures in
+    all_still c.args.rules.now c.args.param_env (g.C.InferCtxtLike.state c.args.ctx.now)
+    (g.C.InferCtxtLike.state c.try_rule.new.ctx)
+    (record { later = e.later; lawful = e.lawful; grown = e.grown }) c.requires.may.env_known c.requires.may.rules
+    c.args.asked.now.proved.items c.requires.remembers
 
 -- A list.
 pub all_follow-rounds-init : goal.all_follow-rounds-init
