@@ -17,7 +17,7 @@ use crate::blaming::blame_of;
 use crate::candidate::{Candidate, try_rule};
 use crate::opening::RuleOf;
 use crate::ordering::is_of_variable;
-use crate::reading::comes_to_one;
+use crate::reading::{ReadGoal, comes_to_one};
 use crate::searching::{
     Round, RoundOf, Search, Tried, TriedOf, Verdict, VerdictOf, is_left, is_over, keep_told,
     settle, with_tried, worse,
@@ -26,7 +26,7 @@ pub use crate::told::{Blame, BlameOf, Told, ToldOf, Why};
 use kept_records::KeepsRecord;
 use relation_folds::error::RelateResult;
 use relation_solver::laws;
-use relation_terms::terms::{Clause, Interner, ParamEnv, Span};
+use relation_terms::terms::{Clause, Interner, Keys, ParamEnv, Span};
 
 /// Whether a goal follows from rules, within a depth: such as impls, and what an environment has, each of its clauses
 /// as a rule that binds nothing and asks for nothing.
@@ -111,7 +111,11 @@ fn follows<C: KeepsRecord>(
     }
     let enough = one.is_some();
     let read = one.unwrap_or(*goal);
-    let told = follows_by_some(ctx, rules, param_env, &read, enough, depth - 1, span, asked)?;
+    let asks = ReadGoal {
+        goal: read,
+        is_one: enough,
+    };
+    let told = follows_by_some(ctx, rules, param_env, &asks, depth - 1, span, asked)?;
     asked.insert(one, &told, depth)?;
     Ok(told)
 }
@@ -123,28 +127,28 @@ fn follows_by_some<C: KeepsRecord>(
     ctx: &mut C,
     rules: &[RuleOf<C::Interner>],
     param_env: ParamEnv<C::Interner>,
-    goal: &Clause<C::Interner>,
-    enough: bool,
+    read: &ReadGoal<<C::Interner as Keys>::Key>,
     depth: usize,
     span: Span<C::Interner>,
     asked: &mut AskedGoals<Clause<C::Interner>>,
 ) -> RelateResult<C::Interner, ToldOf<C::Interner>>
     requires may { MayProve (C.state ctx.old) rules.now param_env }
-    requires goal { MayAsk (C.state ctx.old) goal.now }
-    requires one { let c = C.state ctx.old in IsTrue enough → HasOneValue c.store ((c.meaning).clause goal.now) }
+    requires goal { MayAsk (C.state ctx.old) read.now.goal }
+    requires one { let c = C.state ctx.old in
+        IsTrue read.now.is_one → HasOneValue c.store ((c.meaning).clause read.now.goal) }
     requires remembers { RemembersAll (C.state ctx.old) rules.now param_env asked.old.proved.items }
     ensures goes_on { GoesOn (C.state ctx.old) (C.state ctx.new) }
-    ensures tells { IfOk result (TellsGoal (C.state ctx.old) (C.state ctx.new) rules.now param_env goal.now) }
+    ensures tells { IfOk result (TellsGoal (C.state ctx.old) (C.state ctx.new) rules.now param_env read.now.goal) }
     ensures remembers { let d = C.state ctx.new in
         IfOk result (λ r. RemembersMore d rules.now param_env asked.old.proved.items asked.new.proved.items) }
 {
     let mut search = Search::Nothing(None);
     for (place, rule) in rules.iter().enumerate() {
-        if is_over(&search, enough) {
+        if is_over(&search, read.is_one) {
             return Ok(settle(ctx, search));
         }
         let tried = try_and_put_back(
-            ctx, rules, param_env, *rule, place, goal, enough, depth, span, asked,
+            ctx, rules, param_env, *rule, place, read, depth, span, asked,
         )?;
         search = with_tried(search, place, tried);
     }
@@ -160,8 +164,7 @@ fn try_and_put_back<C: KeepsRecord>(
     param_env: ParamEnv<C::Interner>,
     rule: RuleOf<C::Interner>,
     place: usize,
-    goal: &Clause<C::Interner>,
-    enough: bool,
+    read: &ReadGoal<<C::Interner as Keys>::Key>,
     depth: usize,
     span: Span<C::Interner>,
     asked: &mut AskedGoals<Clause<C::Interner>>,
@@ -169,21 +172,23 @@ fn try_and_put_back<C: KeepsRecord>(
     requires may { MayGoOn (C.state ctx.old) rules.now param_env asked.old.proved.items }
     requires rule { MayUse (C.state ctx.old) rule }
     requires place { place < length rules.now }
-    requires goal { MayAsk (C.state ctx.old) goal.now }
+    requires goal { MayAsk (C.state ctx.old) read.now.goal }
     ensures goes_on { GoesOn (C.state ctx.old) (C.state ctx.new) }
-    ensures back { IfOk result (IsBackUnless enough (C.state ctx.old) (C.state ctx.new)) }
+    ensures back { IfOk result (IsBackUnless read.now.is_one (C.state ctx.old) (C.state ctx.new)) }
     ensures tells { let c = C.state ctx.old in
-        IfOk result (TellsTried C.state C.with_record c ctx.new rules.now param_env rule goal.now) }
+        IfOk result (TellsTried C.state C.with_record c ctx.new rules.now param_env rule read.now.goal) }
     ensures remembers { let d = C.state ctx.new in
         IfOk result (λ r. RemembersMore d rules.now param_env asked.old.proved.items asked.new.proved.items) }
 {
-    if is_passed_over(&*ctx, &rule, goal) {
+    if is_passed_over(&*ctx, &rule, &read.goal) {
         return Ok(Tried::Fails(None));
     }
     let before = ctx.keep()?;
     let proved = asked.len();
-    let told = follows_by(ctx, rules, param_env, rule, place, goal, depth, span, asked)?;
-    if is_left(&told, enough) {
+    let told = follows_by(
+        ctx, rules, param_env, rule, place, &read.goal, depth, span, asked,
+    )?;
+    if is_left(&told, read.is_one) {
         return Ok(Tried::Stays);
     }
     let tried = keep_told(&*ctx, told)?;

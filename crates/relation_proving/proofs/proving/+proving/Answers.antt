@@ -103,7 +103,7 @@ follows-returns g t c =
 pub follows_by_some-loop-place-init : goal.follows_by_some-loop-place-init
 follows_by_some-loop-place-init g t c =
     let s = g.C.InferCtxtLike.state c.args.ctx.now in (
-      search_begins g.C.InferCtxtLike.state g.C.KeepsRecord.with_record s c.args.rules.now c.args.param_env c.args.goal.now c.args.ctx.now
+      search_begins g.C.InferCtxtLike.state g.C.KeepsRecord.with_record s c.args.rules.now c.args.param_env c.args.read.now.goal c.args.ctx.now
           (back_itself s c.requires.may.lawful),
       same_all c.args.rules.now c.args.param_env s c.args.asked.now.proved.items c.requires.remembers,
     )
@@ -112,8 +112,8 @@ pub follows_by_some-try_and_put_back-requires : goal.follows_by_some-try_and_put
 follows_by_some-try_and_put_back-requires g t c κs within =
     let s = g.C.InferCtxtLike.state c.args.ctx.now in
     let d = g.C.InferCtxtLike.state c.loop-place.ctx in
-    let back = search_back g.C.InferCtxtLike.state g.C.KeepsRecord.with_record s c.args.rules.now c.args.param_env c.args.goal.now c.loop-place.ctx
-    c.loop-place.place c.args.enough c.loop-place.search (sym c.is_over.ensures ∙ c.if-is_over.false)
+    let back = search_back g.C.InferCtxtLike.state g.C.KeepsRecord.with_record s c.args.rules.now c.args.param_env c.args.read.now.goal c.loop-place.ctx
+    c.loop-place.place c.args.read.now.is_one c.loop-place.search (sym c.is_over.ensures ∙ c.if-is_over.false)
     c.loop-place.invariant.0 in
     let on = back_goes s d back in
     let m = c.decreases in
@@ -121,7 +121,7 @@ follows_by_some-try_and_put_back-requires g t c κs within =
     let used = uses_on s d on c.args.rules.now c.requires.may.rules c.loop-place.place c.index-rules-place.result
     c.loop-place-test.true in
     let usable = subst (λ k. MayUse d k) (sym c.index-rules-place.is) used in
-    let ask = ask_on s d on c.args.goal.now c.requires.goal in
+    let ask = ask_on s d on c.args.read.now.goal c.requires.goal in
     let both : MayGoOn d c.args.rules.now c.args.param_env c.loop-place.asked.proved.items =
     record { may = may; remembers = c.loop-place.invariant.1.all } in
     search rules
@@ -131,8 +131,8 @@ follows_by_some-returns-in_err-tried-clause-goes_on g t c =
     let s = g.C.InferCtxtLike.state c.args.ctx.now in
     let d = g.C.InferCtxtLike.state c.loop-place.ctx in
     let e = g.C.InferCtxtLike.state c.try_and_put_back.new.ctx in
-    let back = search_back g.C.InferCtxtLike.state g.C.KeepsRecord.with_record s c.args.rules.now c.args.param_env c.args.goal.now c.loop-place.ctx
-    c.loop-place.place c.args.enough c.loop-place.search (sym c.is_over.ensures ∙ c.if-is_over.false)
+    let back = search_back g.C.InferCtxtLike.state g.C.KeepsRecord.with_record s c.args.rules.now c.args.param_env c.args.read.now.goal c.loop-place.ctx
+    c.loop-place.place c.args.read.now.is_one c.loop-place.search (sym c.is_over.ensures ∙ c.if-is_over.false)
     c.loop-place.invariant.0 in
     goes_through s d e (back_goes s d back) c.in_err-tried.ensures.goes_on
 
@@ -144,13 +144,13 @@ follows_by_some-loop-place-preserved g t c =
     let inv = c.loop-place.invariant.0 in
     let on = sym c.is_over.ensures ∙ c.if-is_over.false in
     let done = c.in_ok-tried.ensures in
-    let back = search_back g.C.InferCtxtLike.state g.C.KeepsRecord.with_record s c.args.rules.now c.args.param_env c.args.goal.now c.loop-place.ctx
-    c.loop-place.place c.args.enough c.loop-place.search on inv in (
-      subst (Searches g.C.InferCtxtLike.state g.C.KeepsRecord.with_record s c.args.rules.now c.args.param_env c.args.goal.now
+    let back = search_back g.C.InferCtxtLike.state g.C.KeepsRecord.with_record s c.args.rules.now c.args.param_env c.args.read.now.goal c.loop-place.ctx
+    c.loop-place.place c.args.read.now.is_one c.loop-place.search on inv in (
+      subst (Searches g.C.InferCtxtLike.state g.C.KeepsRecord.with_record s c.args.rules.now c.args.param_env c.args.read.now.goal
           c.try_and_put_back.new.ctx (c.loop-place.place + 1)) (sym c.with_tried-search.ensures)
-          (search_goes_on g.C.InferCtxtLike.state g.C.KeepsRecord.with_record s c.args.rules.now c.args.param_env c.args.goal.now c.loop-place.ctx
+          (search_goes_on g.C.InferCtxtLike.state g.C.KeepsRecord.with_record s c.args.rules.now c.args.param_env c.args.read.now.goal c.loop-place.ctx
           c.try_and_put_back.new.ctx c.loop-place.place c.index-rules-place.result c.loop-place-test.true
-          c.index-rules-place.is c.requires.may.env_known c.requires.may.rules c.requires.goal back done.goes_on c.args.enough c.requires.one
+          c.index-rules-place.is c.requires.may.env_known c.requires.may.rules c.requires.goal back done.goes_on c.args.read.now.is_one c.requires.one
           (g.met.C.InferCtxtLike.sound c.try_and_put_back.new.ctx done.goes_on.lawful) c.loop-place.search
           c.in_ok-tried.tried on inv.tells done.back done.tells),
       more_through c.args.rules.now c.args.param_env e c.args.asked.now.proved.items c.loop-place.asked.proved.items c.try_and_put_back.new.asked.proved.items d
@@ -161,11 +161,11 @@ follows_by_some-loop-place-preserved g t c =
 pub follows_by_some-settle-requires : goal.follows_by_some-settle-requires
 follows_by_some-settle-requires g t c =
     let s = g.C.InferCtxtLike.state c.args.ctx.now in
-    let over = search_ends g.C.InferCtxtLike.state g.C.KeepsRecord.with_record s c.args.rules.now c.args.param_env c.args.goal.now
-    c.loop-place.ctx c.loop-place.place c.args.enough c.loop-place.search (sym c.is_over.ensures ∙ c.if-is_over.true)
+    let over = search_ends g.C.InferCtxtLike.state g.C.KeepsRecord.with_record s c.args.rules.now c.args.param_env c.args.read.now.goal
+    c.loop-place.ctx c.loop-place.place c.args.read.now.is_one c.loop-place.search (sym c.is_over.ensures ∙ c.if-is_over.true)
     c.loop-place.invariant.0 in
     record {
-      may = may_settle g.C.InferCtxtLike.state g.C.KeepsRecord.with_record s c.args.rules.now c.args.param_env c.args.goal.now
+      may = may_settle g.C.InferCtxtLike.state g.C.KeepsRecord.with_record s c.args.rules.now c.args.param_env c.args.read.now.goal
           g.met.C.KeepsRecord.stands c.loop-place.ctx (length c.args.rules.now) (omega arith) c.loop-place.search
           over.tells;
     }
@@ -175,20 +175,20 @@ follows_by_some-returns-then-is_over g t c =
     let s = g.C.InferCtxtLike.state c.args.ctx.now in
     let d = g.C.InferCtxtLike.state c.loop-place.ctx in
     let e = g.C.InferCtxtLike.state c.settle.new.ctx in
-    let over = search_ends g.C.InferCtxtLike.state g.C.KeepsRecord.with_record s c.args.rules.now c.args.param_env c.args.goal.now
-    c.loop-place.ctx c.loop-place.place c.args.enough c.loop-place.search (sym c.is_over.ensures ∙ c.if-is_over.true)
+    let over = search_ends g.C.InferCtxtLike.state g.C.KeepsRecord.with_record s c.args.rules.now c.args.param_env c.args.read.now.goal
+    c.loop-place.ctx c.loop-place.place c.args.read.now.is_one c.loop-place.search (sym c.is_over.ensures ∙ c.if-is_over.true)
     c.loop-place.invariant.0 in
     let known = proves_on s d (back_goes_on g.C.InferCtxtLike.state g.C.KeepsRecord.with_record s c.args.rules.now c.args.param_env
-    c.args.goal.now c.loop-place.ctx c.loop-place.search over.back) c.args.rules.now c.args.param_env c.requires.may in
+    c.args.read.now.goal c.loop-place.ctx c.loop-place.search over.back) c.args.rules.now c.args.param_env c.requires.may in
     record {
-      goes_on = settles_goes g.C.InferCtxtLike.state g.C.KeepsRecord.with_record s c.args.rules.now c.args.param_env c.args.goal.now
+      goes_on = settles_goes g.C.InferCtxtLike.state g.C.KeepsRecord.with_record s c.args.rules.now c.args.param_env c.args.read.now.goal
           g.met.C.KeepsRecord.stands c.loop-place.ctx (length c.args.rules.now) (omega arith) c.loop-place.search over
           c.settle.new.ctx c.settle.ensures.leaves;
-      tells = settles_tells g.C.InferCtxtLike.state g.C.KeepsRecord.with_record s c.args.rules.now c.args.param_env c.args.goal.now
+      tells = settles_tells g.C.InferCtxtLike.state g.C.KeepsRecord.with_record s c.args.rules.now c.args.param_env c.args.read.now.goal
           g.met.C.KeepsRecord.stands c.loop-place.ctx (length c.args.rules.now) (omega arith) c.loop-place.search over
           c.settle.new.ctx c.settle.ensures.leaves c.settle.result c.settle.ensures.told;
       remembers = more_on c.args.rules.now c.args.param_env d e (settles_later g.C.InferCtxtLike.state g.C.KeepsRecord.with_record s c.args.rules.now c.args.param_env
-          c.args.goal.now g.met.C.KeepsRecord.stands c.loop-place.ctx (length c.args.rules.now) (omega arith)
+          c.args.read.now.goal g.met.C.KeepsRecord.stands c.loop-place.ctx (length c.args.rules.now) (omega arith)
           c.loop-place.search over c.settle.new.ctx c.settle.ensures.leaves) known.env_known known.rules c.args.asked.now.proved.items
           c.loop-place.asked.proved.items c.loop-place.invariant.1;
     }
@@ -199,7 +199,7 @@ follows_by_some-settle-requires-2 g t c =
     let s = g.C.InferCtxtLike.state c.args.ctx.now in
     let test = c.loop-place-test.false in
     record {
-      may = may_settle g.C.InferCtxtLike.state g.C.KeepsRecord.with_record s c.args.rules.now c.args.param_env c.args.goal.now
+      may = may_settle g.C.InferCtxtLike.state g.C.KeepsRecord.with_record s c.args.rules.now c.args.param_env c.args.read.now.goal
           g.met.C.KeepsRecord.stands c.loop-place.ctx c.loop-place.place (omega (arith, test)) c.loop-place.search
           c.loop-place.invariant.0.tells;
     }
@@ -213,16 +213,16 @@ follows_by_some-returns g t c =
     let all : length c.args.rules.now ≤ c.loop-place.place = omega (arith, test) in
     let inv = c.loop-place.invariant.0 in
     let known = proves_on s d (back_goes_on g.C.InferCtxtLike.state g.C.KeepsRecord.with_record s c.args.rules.now c.args.param_env
-    c.args.goal.now c.loop-place.ctx c.loop-place.search inv.back) c.args.rules.now c.args.param_env c.requires.may in
+    c.args.read.now.goal c.loop-place.ctx c.loop-place.search inv.back) c.args.rules.now c.args.param_env c.requires.may in
     record {
-      goes_on = settles_goes g.C.InferCtxtLike.state g.C.KeepsRecord.with_record s c.args.rules.now c.args.param_env c.args.goal.now
+      goes_on = settles_goes g.C.InferCtxtLike.state g.C.KeepsRecord.with_record s c.args.rules.now c.args.param_env c.args.read.now.goal
           g.met.C.KeepsRecord.stands c.loop-place.ctx c.loop-place.place all c.loop-place.search inv c.settle-2.new.ctx
           c.settle-2.ensures.leaves;
-      tells = settles_tells g.C.InferCtxtLike.state g.C.KeepsRecord.with_record s c.args.rules.now c.args.param_env c.args.goal.now
+      tells = settles_tells g.C.InferCtxtLike.state g.C.KeepsRecord.with_record s c.args.rules.now c.args.param_env c.args.read.now.goal
           g.met.C.KeepsRecord.stands c.loop-place.ctx c.loop-place.place all c.loop-place.search inv c.settle-2.new.ctx
           c.settle-2.ensures.leaves c.settle-2.result c.settle-2.ensures.told;
       remembers = more_on c.args.rules.now c.args.param_env d e (settles_later g.C.InferCtxtLike.state g.C.KeepsRecord.with_record s c.args.rules.now c.args.param_env
-          c.args.goal.now g.met.C.KeepsRecord.stands c.loop-place.ctx c.loop-place.place all c.loop-place.search inv
+          c.args.read.now.goal g.met.C.KeepsRecord.stands c.loop-place.ctx c.loop-place.place all c.loop-place.search inv
           c.settle-2.new.ctx c.settle-2.ensures.leaves) known.env_known known.rules c.args.asked.now.proved.items
           c.loop-place.asked.proved.items c.loop-place.invariant.1;
     }
@@ -241,7 +241,7 @@ try_and_put_back-returns-then-is_passed_over g t c =
     record {
       goes_on = goes_itself s c.requires.may.may.lawful;
       back = back_itself s c.requires.may.may.lawful;
-      tells = never_fails s s c.args.rules.now c.args.param_env c.args.rule c.args.goal.now
+      tells = never_fails s s c.args.rules.now c.args.param_env c.args.rule c.args.read.now.goal
           (c.is_passed_over.ensures c.if-is_passed_over.true);
       remembers = same_all c.args.rules.now c.args.param_env s c.args.asked.now.proved.items c.requires.may.remembers;
     }
@@ -269,7 +269,7 @@ try_and_put_back-returns-then-is_left g t c =
     let s = g.C.InferCtxtLike.state c.args.ctx.now in
     let done = c.in_ok-told.ensures in
     let left = left_tells g.C.InferCtxtLike.state g.C.KeepsRecord.with_record s c.follows_by.new.ctx c.args.rules.now c.args.param_env c.args.rule
-    c.args.goal.now c.args.enough c.in_ok-told.told (sym c.is_left.ensures ∙ c.if-is_left.true) done.tells in
+    c.args.read.now.goal c.args.read.now.is_one c.in_ok-told.told (sym c.is_left.ensures ∙ c.if-is_left.true) done.tells in
     record { goes_on = done.goes_on; back = left.0; tells = left.1; remembers = done.remembers }
 
 pub try_and_put_back-returns : goal.try_and_put_back-returns
@@ -289,8 +289,8 @@ try_and_put_back-returns g t c =
     record {
       goes_on = back_goes s e back;
       back = back_kept state with_record c.follows_by.new.ctx c.in_ok-told.told c.in_ok-tried.tried
-          c.in_ok-tried.ensures c.args.enough s e back;
-      tells = tried_tells state with_record s c.args.rules.now c.args.param_env c.args.rule c.args.goal.now c.follows_by.new.ctx
+          c.in_ok-tried.ensures c.args.read.now.is_one s e back;
+      tells = tried_tells state with_record s c.args.rules.now c.args.param_env c.args.rule c.args.read.now.goal c.follows_by.new.ctx
           c.put_back.new.self done.goes_on grown c.in_ok-told.told c.in_ok-tried.tried done.tells c.in_ok-tried.ensures;
       remembers = first_still c.args.rules.now c.args.param_env s e (back_goes s e back) c.requires.may.may.env_known c.requires.may.may.rules c.args.asked.now.proved.items c.requires.may.remembers d
           c.follows_by.new.asked.proved.items done.remembers c.len-proved.result c.len-proved.ensures

@@ -26,7 +26,7 @@ decreases-one_follows g l = 6 * l.depth + 1
 -- By the rules so far this is known.
 abbrev pub invariant-follows_by_some-loop-place : goal.invariant-follows_by_some-loop-place
 invariant-follows_by_some-loop-place g l = Searches g.C.InferCtxtLike.state g.C.KeepsRecord.with_record
-    (g.C.InferCtxtLike.state l.fn.ctx) l.rules l.param_env l.goal l.ctx l.place l.search ×
+    (g.C.InferCtxtLike.state l.fn.ctx) l.rules l.param_env l.read.goal l.ctx l.place l.search ×
     RemembersMore (g.C.InferCtxtLike.state l.ctx) l.rules l.param_env l.fn.asked.proved.items l.asked.proved.items
 
 -- What is left to ask answers the whole list.
