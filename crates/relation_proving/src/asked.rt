@@ -7,6 +7,7 @@ use crate::told::{Told, Why};
 use delayed_map::DelayedMap;
 use std::alloc::Global;
 use std::hash::Hash;
+use std::marker::Model;
 use term_enums::OutOfMemory;
 
 /// Goals in which no variable but of regions stands: those that were proved in what is recorded now, and those whose
@@ -14,16 +15,27 @@ use term_enums::OutOfMemory;
 #[derive(Drop)]
 pub(crate) struct AskedGoals<T: Eq + Hash> {
     // In the order in which they were proved, each with the place of the rule by which it follows.
-    pub(crate) proved: Vec<(T, usize)>,
+    proved: Vec<(T, usize)>,
     // The number of each; of one that was let go it may be another's by now, or of none.
     numbers: DelayedMap<T, usize>,
     spent: SpentGoals<T>,
 }
 
+impl<T: Eq + Hash> Model for AskedGoals<T> {
+    ghost use Rattle.std.specs.Prelude.{ℕ, List};
+    ghost use Rattle.std.specs.Coded.{coded×, coded_list, coded_ℕ};
+
+    ghost Value = { List (T × ℕ) };
+
+    ghost coded = { coded_list (coded× T.code coded_ℕ) };
+
+    ghost view = { λ a. a.proved.items };
+}
+
 impl<T: Eq + Hash + Copy> AskedGoals<T> {
     /// None was asked. It takes no memory.
     pub(crate) fn new(alloc: Global) -> Self
-        ensures { result.proved.items ≡ [] }
+        ensures { result ≡ [] }
     {
         AskedGoals {
             proved: Vec::new(alloc),
@@ -34,7 +46,7 @@ impl<T: Eq + Hash + Copy> AskedGoals<T> {
 
     // The place of the rule by which an equal goal follows, if it was proved.
     fn proved_by(&self, goal: &Option<T>) -> Option<usize>
-        ensures { IfSome result (λ by. WasProved T.eq goal.now by self.now.proved.items) }
+        ensures { IfSome result (λ by. WasProved T.eq goal.now by self.now) }
     {
         let Some(goal) = goal else {
             return None;
@@ -51,7 +63,7 @@ impl<T: Eq + Hash + Copy> AskedGoals<T> {
     /// What is told of a goal again, that is asked with so many levels left: that it follows, if it was proved, or that
     /// the depth is spent, if it was with as many left, or more. Of none nothing is.
     pub(crate) fn find<X>(&self, goal: &Option<T>, levels: usize) -> Option<Told<X>>
-        ensures { IfSome result (TellsAgain T.eq goal.now self.now.proved.items) }
+        ensures { IfSome result (TellsAgain T.eq goal.now self.now) }
     {
         if let Some(by) = self.proved_by(goal) {
             return Some(Told::Yes(by));
@@ -72,7 +84,7 @@ impl<T: Eq + Hash + Copy> AskedGoals<T> {
         told: &Told<X>,
         levels: usize,
     ) -> Result<(), OutOfMemory>
-        ensures { OnOk result (self.new.proved.items ≡ proved_with goal told.now self.old.proved.items) }
+        ensures { OnOk result (self.new ≡ proved_with goal told.now self.old) }
     {
         let Some(key) = goal else {
             return Ok(());
@@ -91,14 +103,14 @@ impl<T: Eq + Hash + Copy> AskedGoals<T> {
 
     /// How many were proved.
     pub(crate) fn len(&self) -> usize
-        ensures { result ≡ length self.now.proved.items }
+        ensures { result ≡ length self.now }
     {
         self.proved.len()
     }
 
     /// Lets all go that were proved but the first ones, so many.
     pub(crate) fn truncate(&mut self, len: usize)
-        ensures { self.new.proved.items ≡ take len self.old.proved.items }
+        ensures { self.new ≡ take len self.old }
     {
         self.proved.truncate(len);
     }

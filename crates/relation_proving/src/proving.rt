@@ -96,11 +96,11 @@ fn follows<C: KeepsRecord>(
 ) -> RelateResult<C::Interner, ToldOf<C::Interner>>
     requires may { MayProve (C.state ctx.old) rules.now param_env }
     requires goal { MayAsk (C.state ctx.old) goal.now }
-    requires remembers { RemembersAll (C.state ctx.old) rules.now param_env asked.old.proved.items }
+    requires remembers { RemembersAll (C.state ctx.old) rules.now param_env asked.old }
     ensures goes_on { GoesOn (C.state ctx.old) (C.state ctx.new) }
     ensures tells { IfOk result (TellsGoal (C.state ctx.old) (C.state ctx.new) rules.now param_env goal.now) }
     ensures remembers { let d = C.state ctx.new in
-        IfOk result (λ r. RemembersMore d rules.now param_env asked.old.proved.items asked.new.proved.items) }
+        IfOk result (λ r. RemembersMore d rules.now param_env asked.old asked.new) }
 {
     if depth == 0 {
         return Ok(Told::Maybe(Why::Depth));
@@ -136,11 +136,11 @@ fn follows_by_some<C: KeepsRecord>(
     requires goal { MayAsk (C.state ctx.old) read.now.goal }
     requires one { let c = C.state ctx.old in
         IsTrue read.now.is_one → HasOneValue c.store ((c.meaning).clause read.now.goal) }
-    requires remembers { RemembersAll (C.state ctx.old) rules.now param_env asked.old.proved.items }
+    requires remembers { RemembersAll (C.state ctx.old) rules.now param_env asked.old }
     ensures goes_on { GoesOn (C.state ctx.old) (C.state ctx.new) }
     ensures tells { IfOk result (TellsGoal (C.state ctx.old) (C.state ctx.new) rules.now param_env read.now.goal) }
     ensures remembers { let d = C.state ctx.new in
-        IfOk result (λ r. RemembersMore d rules.now param_env asked.old.proved.items asked.new.proved.items) }
+        IfOk result (λ r. RemembersMore d rules.now param_env asked.old asked.new) }
 {
     let mut search = Search::Nothing(None);
     for (place, rule) in rules.iter().enumerate() {
@@ -169,7 +169,7 @@ fn try_and_put_back<C: KeepsRecord>(
     span: Span<C::Interner>,
     asked: &mut AskedGoals<Clause<C::Interner>>,
 ) -> RelateResult<C::Interner, TriedOf<C::Record, C::Interner>>
-    requires may { MayGoOn (C.state ctx.old) rules.now param_env asked.old.proved.items }
+    requires may { MayGoOn (C.state ctx.old) rules.now param_env asked.old }
     requires rule { MayUse (C.state ctx.old) rule }
     requires place { place < length rules.now }
     requires goal { MayAsk (C.state ctx.old) read.now.goal }
@@ -178,7 +178,7 @@ fn try_and_put_back<C: KeepsRecord>(
     ensures tells { let c = C.state ctx.old in
         IfOk result (TellsTried C.state C.with_record c ctx.new rules.now param_env rule read.now.goal) }
     ensures remembers { let d = C.state ctx.new in
-        IfOk result (λ r. RemembersMore d rules.now param_env asked.old.proved.items asked.new.proved.items) }
+        IfOk result (λ r. RemembersMore d rules.now param_env asked.old asked.new) }
 {
     if is_passed_over(&*ctx, &rule, &read.goal) {
         return Ok(Tried::Fails(None));
@@ -214,11 +214,11 @@ fn follows_by<C: KeepsRecord>(
     requires rule { MayUse (C.state ctx.old) rule }
     requires place { place < length rules.now }
     requires goal { MayAsk (C.state ctx.old) goal.now }
-    requires remembers { RemembersAll (C.state ctx.old) rules.now param_env asked.old.proved.items }
+    requires remembers { RemembersAll (C.state ctx.old) rules.now param_env asked.old }
     ensures goes_on { GoesOn (C.state ctx.old) (C.state ctx.new) }
     ensures tells { IfOk result (TellsRule (C.state ctx.old) (C.state ctx.new) rules.now param_env rule goal.now) }
     ensures remembers { let d = C.state ctx.new in
-        IfOk result (λ r. RemembersMore d rules.now param_env asked.old.proved.items asked.new.proved.items) }
+        IfOk result (λ r. RemembersMore d rules.now param_env asked.old asked.new) }
 {
     match try_rule(ctx, param_env, rule, goal, span)? {
         Candidate::Asks(asks) => all_follow(ctx, rules, param_env, asks, place, depth, span, asked),
@@ -242,11 +242,11 @@ fn all_follow<C: KeepsRecord>(
     requires may { MayProve (C.state ctx.old) rules.now param_env }
     requires asks { All (MayAsk (C.state ctx.old)) asks.items }
     requires place { place < length rules.now }
-    requires remembers { RemembersAll (C.state ctx.old) rules.now param_env asked.old.proved.items }
+    requires remembers { RemembersAll (C.state ctx.old) rules.now param_env asked.old }
     ensures goes_on { GoesOn (C.state ctx.old) (C.state ctx.new) }
     ensures tells { IfOk result (TellsAll (C.state ctx.old) (C.state ctx.new) rules.now param_env asks.items) }
     ensures remembers { let d = C.state ctx.new in
-        IfOk result (λ r. RemembersMore d rules.now param_env asked.old.proved.items asked.new.proved.items) }
+        IfOk result (λ r. RemembersMore d rules.now param_env asked.old asked.new) }
 {
     let mut left = asks;
     'rounds: while !left.is_empty() {
@@ -277,11 +277,11 @@ fn one_follows<C: KeepsRecord>(
     requires may { MayProve (C.state ctx.old) rules.now param_env }
     requires goals { All (MayAsk (C.state ctx.old)) goals.now }
     requires by { by < length rules.now }
-    requires remembers { RemembersAll (C.state ctx.old) rules.now param_env asked.old.proved.items }
+    requires remembers { RemembersAll (C.state ctx.old) rules.now param_env asked.old }
     ensures goes_on { GoesOn (C.state ctx.old) (C.state ctx.new) }
     ensures tells { IfOk result (TellsRound (C.state ctx.old) (C.state ctx.new) rules.now param_env goals.now) }
     ensures remembers { let d = C.state ctx.new in
-        IfOk result (λ r. RemembersMore d rules.now param_env asked.old.proved.items asked.new.proved.items) }
+        IfOk result (λ r. RemembersMore d rules.now param_env asked.old asked.new) }
 {
     let mut why = Why::Ambiguous;
     for of_variable in [false, true] {

@@ -36,7 +36,7 @@ follows-returns-then-depth-eq0 g t c =
     record {
       goes_on = goes_itself s c.requires.may.lawful;
       tells = back_itself s c.requires.may.lawful;
-      remembers = same_all c.args.rules.now c.args.param_env s c.args.asked.now.proved.items c.requires.remembers;
+      remembers = same_all c.args.rules.now c.args.param_env s c.args.asked.now c.requires.remembers;
     }
 
 pub follows-returns-in-Some : goal.follows-returns-in-Some
@@ -47,13 +47,13 @@ follows-returns-in-Some g t c =
     let on = back_goes s d back in
     let equal = subst (λ m. AreEqualAsTrees m.clause (λ k l. g.C.Interner.Key.PartialEq.eq k.0 l.0)) (sym (g.met.C.InferCtxtLike.reads c.comes_to_one.new.ctx))
     (g.met.C.Interner.Interner.same_clause (g.C.InferCtxtLike.interner c.comes_to_one.new.ctx)) in
-    let known = all_on c.args.rules.now c.args.param_env s d on c.requires.may.env_known c.requires.may.rules c.args.asked.now.proved.items c.requires.remembers in
+    let known = all_on c.args.rules.now c.args.param_env s d on c.requires.may.env_known c.requires.may.rules c.args.asked.now c.requires.remembers in
     record {
       goes_on = on;
       tells = again_read c.args.rules.now c.args.param_env s d back c.requires.may.env_known c.requires.may.rules
           (λ k l. g.C.Interner.Key.PartialEq.eq k.0 l.0) equal c.args.goal.now c.requires.goal c.in_ok-one.one
-          c.in_ok-one.ensures.one c.args.asked.now.proved.items known c.in-Some.told c.in-Some.ensures;
-      remembers = same_all c.args.rules.now c.args.param_env d c.args.asked.now.proved.items known;
+          c.in_ok-one.ensures.one c.args.asked.now known c.in-Some.told c.in-Some.ensures;
+      remembers = same_all c.args.rules.now c.args.param_env d c.args.asked.now known;
     }
 
 pub follows-follows_by_some-requires : goal.follows-follows_by_some-requires
@@ -69,7 +69,7 @@ follows-follows_by_some-requires g t c κs within =
     let ask = read.may_ask in
     let one = read_one s d c.args.goal.now c.in_ok-one.one c.in_ok-one.ensures.one c.unwrap_or-read.result
     c.unwrap_or-read.ensures c.is_some-enough.result c.is_some-enough.ensures in
-    let known = all_on c.args.rules.now c.args.param_env s d on c.requires.may.env_known c.requires.may.rules c.args.asked.now.proved.items c.requires.remembers in
+    let known = all_on c.args.rules.now c.args.param_env s d on c.requires.may.env_known c.requires.may.rules c.args.asked.now c.requires.remembers in
     search rules
 
 pub follows-returns-in_err-told-clause-goes_on : goal.follows-returns-in_err-told-clause-goes_on
@@ -93,10 +93,10 @@ follows-returns g t c =
     record {
       goes_on = goes_through s d e on done.goes_on;
       tells = read_tells s d e back c.args.rules.now c.args.param_env c.requires.may.env_known c.requires.may.rules c.args.goal.now c.unwrap_or-read.result read c.in_ok-told.told done.tells;
-      remembers = subst (RemembersMore e c.args.rules.now c.args.param_env c.args.asked.now.proved.items) (sym c.in_ok-insert.ensures)
+      remembers = subst (RemembersMore e c.args.rules.now c.args.param_env c.args.asked.now) (sym c.in_ok-insert.ensures)
           (told_more c.args.rules.now c.args.param_env d e done.goes_on may.env_known may.rules c.in_ok-one.one c.unwrap_or-read.result
-          c.args.goal.now c.unwrap_or-read.ensures read.may_ask c.in_ok-told.told done.tells c.args.asked.now.proved.items
-          c.follows_by_some.new.asked.proved.items done.remembers);
+          c.args.goal.now c.unwrap_or-read.ensures read.may_ask c.in_ok-told.told done.tells c.args.asked.now
+          c.follows_by_some.new.asked done.remembers);
     }
 
 -- A goal by some rule.
@@ -105,7 +105,7 @@ follows_by_some-loop-place-init g t c =
     let s = g.C.InferCtxtLike.state c.args.ctx.now in (
       search_begins g.C.InferCtxtLike.state g.C.KeepsRecord.with_record s c.args.rules.now c.args.param_env c.args.read.now.goal c.args.ctx.now
           (back_itself s c.requires.may.lawful),
-      same_all c.args.rules.now c.args.param_env s c.args.asked.now.proved.items c.requires.remembers,
+      same_all c.args.rules.now c.args.param_env s c.args.asked.now c.requires.remembers,
     )
 
 pub follows_by_some-try_and_put_back-requires : goal.follows_by_some-try_and_put_back-requires
@@ -122,7 +122,7 @@ follows_by_some-try_and_put_back-requires g t c κs within =
     c.loop-place-test.true in
     let usable = subst (λ k. MayUse d k) (sym c.index-rules-place.is) used in
     let ask = ask_on s d on c.args.read.now.goal c.requires.goal in
-    let both : MayGoOn d c.args.rules.now c.args.param_env c.loop-place.asked.proved.items =
+    let both : MayGoOn d c.args.rules.now c.args.param_env c.loop-place.asked =
     record { may = may; remembers = c.loop-place.invariant.1.all } in
     search rules
 
@@ -153,7 +153,7 @@ follows_by_some-loop-place-preserved g t c =
           c.index-rules-place.is c.requires.may.env_known c.requires.may.rules c.requires.goal back done.goes_on c.args.read.now.is_one c.requires.one
           (g.met.C.InferCtxtLike.sound c.try_and_put_back.new.ctx done.goes_on.lawful) c.loop-place.search
           c.in_ok-tried.tried on inv.tells done.back done.tells),
-      more_through c.args.rules.now c.args.param_env e c.args.asked.now.proved.items c.loop-place.asked.proved.items c.try_and_put_back.new.asked.proved.items d
+      more_through c.args.rules.now c.args.param_env e c.args.asked.now c.loop-place.asked c.try_and_put_back.new.asked d
           c.loop-place.invariant.1 done.remembers,
     )
 
@@ -189,8 +189,8 @@ follows_by_some-returns-then-is_over g t c =
           c.settle.new.ctx c.settle.ensures.leaves c.settle.result c.settle.ensures.told;
       remembers = more_on c.args.rules.now c.args.param_env d e (settles_later g.C.InferCtxtLike.state g.C.KeepsRecord.with_record s c.args.rules.now c.args.param_env
           c.args.read.now.goal g.met.C.KeepsRecord.stands c.loop-place.ctx (length c.args.rules.now) (omega arith)
-          c.loop-place.search over c.settle.new.ctx c.settle.ensures.leaves) known.env_known known.rules c.args.asked.now.proved.items
-          c.loop-place.asked.proved.items c.loop-place.invariant.1;
+          c.loop-place.search over c.settle.new.ctx c.settle.ensures.leaves) known.env_known known.rules c.args.asked.now
+          c.loop-place.asked c.loop-place.invariant.1;
     }
 
 -- All rules were tried.
@@ -223,17 +223,19 @@ follows_by_some-returns g t c =
           c.settle-2.ensures.leaves c.settle-2.result c.settle-2.ensures.told;
       remembers = more_on c.args.rules.now c.args.param_env d e (settles_later g.C.InferCtxtLike.state g.C.KeepsRecord.with_record s c.args.rules.now c.args.param_env
           c.args.read.now.goal g.met.C.KeepsRecord.stands c.loop-place.ctx c.loop-place.place all c.loop-place.search inv
-          c.settle-2.new.ctx c.settle-2.ensures.leaves) known.env_known known.rules c.args.asked.now.proved.items
-          c.loop-place.asked.proved.items c.loop-place.invariant.1;
+          c.settle-2.new.ctx c.settle-2.ensures.leaves) known.env_known known.rules c.args.asked.now
+          c.loop-place.asked c.loop-place.invariant.1;
     }
 
 -- A rule that is tried, and the record put back.
-pub try_and_put_back-is_passed_over-requires : goal.try_and_put_back-is_passed_over-requires
-try_and_put_back-is_passed_over-requires g t c = record {
-  lawful = c.requires.may.may.lawful;
-  rule = c.requires.rule;
-  goal = c.requires.goal;
-}
+pub try_and_put_back-is_passed_over-requires-clause-lawful : goal.try_and_put_back-is_passed_over-requires-clause-lawful
+try_and_put_back-is_passed_over-requires-clause-lawful g t c = c.requires.may.may.lawful
+
+pub try_and_put_back-is_passed_over-requires-clause-rule : goal.try_and_put_back-is_passed_over-requires-clause-rule
+try_and_put_back-is_passed_over-requires-clause-rule g t c = c.requires.rule
+
+pub try_and_put_back-is_passed_over-requires-clause-goal : goal.try_and_put_back-is_passed_over-requires-clause-goal
+try_and_put_back-is_passed_over-requires-clause-goal g t c = c.requires.goal
 
 pub try_and_put_back-returns-then-is_passed_over : goal.try_and_put_back-returns-then-is_passed_over
 try_and_put_back-returns-then-is_passed_over g t c =
@@ -243,7 +245,7 @@ try_and_put_back-returns-then-is_passed_over g t c =
       back = back_itself s c.requires.may.may.lawful;
       tells = never_fails s s c.args.rules.now c.args.param_env c.args.rule c.args.read.now.goal
           (c.is_passed_over.ensures c.if-is_passed_over.true);
-      remembers = same_all c.args.rules.now c.args.param_env s c.args.asked.now.proved.items c.requires.may.remembers;
+      remembers = same_all c.args.rules.now c.args.param_env s c.args.asked.now c.requires.may.remembers;
     }
 
 pub try_and_put_back-keep-requires : goal.try_and_put_back-keep-requires
@@ -292,9 +294,9 @@ try_and_put_back-returns g t c =
           c.in_ok-tried.ensures c.args.read.now.is_one s e back;
       tells = tried_tells state with_record s c.args.rules.now c.args.param_env c.args.rule c.args.read.now.goal c.follows_by.new.ctx
           c.put_back.new.self done.goes_on grown c.in_ok-told.told c.in_ok-tried.tried done.tells c.in_ok-tried.ensures;
-      remembers = first_still c.args.rules.now c.args.param_env s e (back_goes s e back) c.requires.may.may.env_known c.requires.may.may.rules c.args.asked.now.proved.items c.requires.may.remembers d
-          c.follows_by.new.asked.proved.items done.remembers c.len-proved.result c.len-proved.ensures
-          c.truncate.new.self.proved.items c.truncate.ensures;
+      remembers = first_still c.args.rules.now c.args.param_env s e (back_goes s e back) c.requires.may.may.env_known c.requires.may.may.rules c.args.asked.now c.requires.may.remembers d
+          c.follows_by.new.asked done.remembers c.len-proved.result c.len-proved.ensures
+          c.truncate.new.self c.truncate.ensures;
     }
 
 -- One rule.
@@ -315,7 +317,7 @@ follows_by-all_follow-requires g t c κs within =
     let m = c.decreases in
     let may = proves_on s d on c.args.rules.now c.args.param_env c.requires.may in
     let asks = (subst (TellsCandidate s c.args.param_env c.args.rule c.args.goal.now d) c.in-Asks.is e.tells).0 in
-    let known = all_on c.args.rules.now c.args.param_env s d on c.requires.may.env_known c.requires.may.rules c.args.asked.now.proved.items c.requires.remembers in
+    let known = all_on c.args.rules.now c.args.param_env s d on c.requires.may.env_known c.requires.may.rules c.args.asked.now c.requires.remembers in
     search rules
 
 pub follows_by-returns-in-Asks : goal.follows_by-returns-in-Asks
@@ -343,7 +345,7 @@ follows_by-returns-in-Apart g t c =
       goes_on = on;
       tells = by_apart s d d c.args.param_env c.requires.may.env_known c.args.rule c.args.goal.now c.args.rules.now on c.requires.may.rules
           (subst (TellsCandidate s c.args.param_env c.args.rule c.args.goal.now d) c.in-Apart.is e.tells);
-      remembers = all_still c.args.rules.now c.args.param_env s d on c.requires.may.env_known c.requires.may.rules c.args.asked.now.proved.items c.requires.remembers;
+      remembers = all_still c.args.rules.now c.args.param_env s d on c.requires.may.env_known c.requires.may.rules c.args.asked.now c.requires.remembers;
     }
 
 pub follows_by-returns-in-Unclear-clause-remembers : goal.follows_by-returns-in-Unclear-clause-remembers
@@ -352,14 +354,14 @@ follows_by-returns-in-Unclear-clause-remembers g t c =
     all_still c.args.rules.now c.args.param_env (g.C.InferCtxtLike.state c.args.ctx.now)
     (g.C.InferCtxtLike.state c.try_rule.new.ctx)
     (record { later = e.later; lawful = e.lawful; grown = e.grown }) c.requires.may.env_known c.requires.may.rules
-    c.args.asked.now.proved.items c.requires.remembers
+    c.args.asked.now c.requires.remembers
 
 -- A list.
 pub all_follow-rounds-init : goal.all_follow-rounds-init
 all_follow-rounds-init g t c =
     let s = g.C.InferCtxtLike.state c.args.ctx.now in (
       asking_begins s c.args.rules.now c.args.param_env c.args.asks.items c.requires.may.lawful c.requires.asks,
-      same_all c.args.rules.now c.args.param_env s c.args.asked.now.proved.items c.requires.remembers,
+      same_all c.args.rules.now c.args.param_env s c.args.asked.now c.requires.remembers,
     )
 
 pub all_follow-one_follows-requires : goal.all_follow-one_follows-requires
@@ -391,8 +393,8 @@ all_follow-rounds-preserved g t c =
       subst (AsksOn s e ks c.args.param_env c.args.asks.items) (sym c.remove.ensures.items)
           (asking_goes_on s ks c.args.param_env c.args.asks.items d e c.rounds.left.items c.requires.may.rules
           c.requires.may.env_known c.rounds.invariant.0 c.in_ok-number.ensures.goes_on c.in-Proved.number told),
-      more_through c.args.rules.now c.args.param_env e c.args.asked.now.proved.items c.rounds.asked.proved.items
-          c.one_follows.new.asked.proved.items d c.rounds.invariant.1 c.in_ok-number.ensures.remembers,
+      more_through c.args.rules.now c.args.param_env e c.args.asked.now c.rounds.asked
+          c.one_follows.new.asked d c.rounds.invariant.1 c.in_ok-number.ensures.remembers,
     )
 
 pub all_follow-returns-in-Failed : goal.all_follow-returns-in-Failed
@@ -408,8 +410,8 @@ all_follow-returns-in-Failed g t c =
       tells = asking_fails s ks c.args.param_env c.args.asks.items d e c.rounds.left.items c.requires.may.rules
           c.requires.may.env_known c.rounds.invariant.0
           c.in_ok-number.ensures.goes_on c.in-Failed.blame told;
-      remembers = more_through c.args.rules.now c.args.param_env e c.args.asked.now.proved.items c.rounds.asked.proved.items
-          c.one_follows.new.asked.proved.items d c.rounds.invariant.1 c.in_ok-number.ensures.remembers;
+      remembers = more_through c.args.rules.now c.args.param_env e c.args.asked.now c.rounds.asked
+          c.one_follows.new.asked d c.rounds.invariant.1 c.in_ok-number.ensures.remembers;
     }
 
 pub all_follow-returns-in-Stuck : goal.all_follow-returns-in-Stuck
@@ -420,8 +422,8 @@ all_follow-returns-in-Stuck g t c =
     record {
       goes_on = goes_through s d e c.rounds.invariant.0.goes_on c.in_ok-number.ensures.goes_on;
       tells = tt;
-      remembers = more_through c.args.rules.now c.args.param_env e c.args.asked.now.proved.items c.rounds.asked.proved.items
-          c.one_follows.new.asked.proved.items d c.rounds.invariant.1 c.in_ok-number.ensures.remembers;
+      remembers = more_through c.args.rules.now c.args.param_env e c.args.asked.now c.rounds.asked
+          c.one_follows.new.asked d c.rounds.invariant.1 c.in_ok-number.ensures.remembers;
     }
 
 pub all_follow-returns : goal.all_follow-returns
@@ -440,7 +442,7 @@ pub one_follows-loop-of_variable-init : goal.one_follows-loop-of_variable-init
 one_follows-loop-of_variable-init g t c =
     let s = g.C.InferCtxtLike.state c.args.ctx.now in (
       back_itself s c.requires.may.lawful,
-      same_all c.args.rules.now c.args.param_env s c.args.asked.now.proved.items c.requires.remembers,
+      same_all c.args.rules.now c.args.param_env s c.args.asked.now c.requires.remembers,
     )
 
 pub one_follows-loop-place-init : goal.one_follows-loop-place-init
@@ -490,8 +492,8 @@ one_follows-returns-in-Yes g t c =
           c.requires.goals c.loop-place.place c.loop-place-test.true c.index-goals-place.result c.index-goals-place.is
           c.in-Yes.field-0 (subst (TellsGoal d e c.args.rules.now c.args.param_env c.index-goals-place.result) c.in-Yes.is
           c.in_ok-follows.ensures.tells);
-      remembers = more_through c.args.rules.now c.args.param_env e c.args.asked.now.proved.items c.loop-place.asked.proved.items
-          c.follows.new.asked.proved.items d c.loop-place.invariant.1 c.in_ok-follows.ensures.remembers;
+      remembers = more_through c.args.rules.now c.args.param_env e c.args.asked.now c.loop-place.asked
+          c.follows.new.asked d c.loop-place.invariant.1 c.in_ok-follows.ensures.remembers;
     }
 
 pub one_follows-returns-in-No : goal.one_follows-returns-in-No
@@ -510,8 +512,8 @@ one_follows-returns-in-No g t c =
           c.in-No.named (subst (TellsGoal d e c.args.rules.now c.args.param_env c.index-goals-place.result) c.in-No.is
           c.in_ok-follows.ensures.tells) f c.in_ok-blame-in-No.blame c.in_ok-blame-in-No.ensures.known;
       remembers = more_on c.args.rules.now c.args.param_env e f c.in_ok-blame-in-No.ensures.goes_on then.env_known then.rules
-          c.args.asked.now.proved.items c.follows.new.asked.proved.items (more_through c.args.rules.now c.args.param_env e c.args.asked.now.proved.items c.loop-place.asked.proved.items
-          c.follows.new.asked.proved.items d c.loop-place.invariant.1 c.in_ok-follows.ensures.remembers);
+          c.args.asked.now c.follows.new.asked (more_through c.args.rules.now c.args.param_env e c.args.asked.now c.loop-place.asked
+          c.follows.new.asked d c.loop-place.invariant.1 c.in_ok-follows.ensures.remembers);
     }
 
 pub one_follows-blame_of-requires-clause-lawful : goal.one_follows-blame_of-requires-clause-lawful
@@ -542,8 +544,8 @@ one_follows-loop-place-preserved g t c =
     let e = g.C.InferCtxtLike.state c.follows.new.ctx in (
       back_through s d e c.loop-place.invariant.0 (subst (TellsGoal d e c.args.rules.now c.args.param_env
           c.index-goals-place.result) c.in-Maybe.is c.in_ok-follows.ensures.tells),
-      more_through c.args.rules.now c.args.param_env e c.args.asked.now.proved.items c.loop-place.asked.proved.items
-          c.follows.new.asked.proved.items d c.loop-place.invariant.1 c.in_ok-follows.ensures.remembers,
+      more_through c.args.rules.now c.args.param_env e c.args.asked.now c.loop-place.asked
+          c.follows.new.asked d c.loop-place.invariant.1 c.in_ok-follows.ensures.remembers,
     )
 
 pub one_follows-returns : goal.one_follows-returns

@@ -27,13 +27,13 @@ decreases-one_follows g l = 6 * l.depth + 1
 abbrev pub invariant-follows_by_some-loop-place : goal.invariant-follows_by_some-loop-place
 invariant-follows_by_some-loop-place g l = Searches g.C.InferCtxtLike.state g.C.KeepsRecord.with_record
     (g.C.InferCtxtLike.state l.fn.ctx) l.rules l.param_env l.read.goal l.ctx l.place l.search ×
-    RemembersMore (g.C.InferCtxtLike.state l.ctx) l.rules l.param_env l.fn.asked.proved.items l.asked.proved.items
+    RemembersMore (g.C.InferCtxtLike.state l.ctx) l.rules l.param_env l.fn.asked l.asked
 
 -- What is left to ask answers the whole list.
 abbrev pub invariant-all_follow-rounds : goal.invariant-all_follow-rounds
 invariant-all_follow-rounds g l = AsksOn (g.C.InferCtxtLike.state l.initial.ctx) (g.C.InferCtxtLike.state l.ctx) l.rules
     l.param_env l.fn.asks.items l.left.items ×
-    RemembersMore (g.C.InferCtxtLike.state l.ctx) l.rules l.param_env l.initial.asked.proved.items l.asked.proved.items
+    RemembersMore (g.C.InferCtxtLike.state l.ctx) l.rules l.param_env l.initial.asked l.asked
 
 abbrev pub decreases-all_follow-rounds : goal.decreases-all_follow-rounds
 decreases-all_follow-rounds g l = vec_len l.left
@@ -42,9 +42,9 @@ decreases-all_follow-rounds g l = vec_len l.left
 abbrev pub invariant-one_follows-loop-of_variable : goal.invariant-one_follows-loop-of_variable
 invariant-one_follows-loop-of_variable g l =
     IsBack (g.C.InferCtxtLike.state l.fn.ctx) (g.C.InferCtxtLike.state l.ctx) ×
-    RemembersMore (g.C.InferCtxtLike.state l.ctx) l.rules l.param_env l.fn.asked.proved.items l.asked.proved.items
+    RemembersMore (g.C.InferCtxtLike.state l.ctx) l.rules l.param_env l.fn.asked l.asked
 
 abbrev pub invariant-one_follows-loop-place : goal.invariant-one_follows-loop-place
 invariant-one_follows-loop-place g l =
     IsBack (g.C.InferCtxtLike.state l.fn.ctx) (g.C.InferCtxtLike.state l.ctx) ×
-    RemembersMore (g.C.InferCtxtLike.state l.ctx) l.rules l.param_env l.fn.asked.proved.items l.asked.proved.items
+    RemembersMore (g.C.InferCtxtLike.state l.ctx) l.rules l.param_env l.fn.asked l.asked
