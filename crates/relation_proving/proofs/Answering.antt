@@ -16,7 +16,7 @@ use Rattle.relation_semantics.proofs.Answering.{items_stay}
 use Rattle.relation_semantics.specs.Stores.{Store}
 use Rattle.relation_solver.specs.Rules.{Rule, one, all}
 use Rattle.relation_solver.specs.Traces.{Without, first, later, Did, goal, rule, yes, no, FollowsBy}
-use Rattle.relation_solver.specs.Traces.{StandsFirst, Proves, ProvesBy, none_asked, one_of}
+use Rattle.relation_solver.specs.Traces.{StandsFirst, Proves, ProvesBy, by_opening, none_asked, one_of}
 use Rattle.relation_solver.proofs.Deriving.{proved_in, proved_by_one}
 use Rattle.relation_solver.proofs.Going.{LeavesToAsk, asks_begin, asks_go_on, asks_end, asks_fail}
 use Rattle.relation_solver.proofs.Going.{rule_is_apart, rule_fails, rule_follows}
@@ -127,7 +127,7 @@ module _ {Key Id Name : Type 0} where
     by_rule : (asks : List (ClauseKey Key)) → GoesOn d e → (rs : List Rule) (r : Rule) → Contains rs r →
         OpensAsking c d env g r asks → IsProved d e ks env rs (all (map (goal_tree d) asks)) →
         IsProvedBy c e ks env rs r g
-    by_rule asks then rs r i o h = record {
+    by_rule asks then rs r i o h = by_opening e.store r (goal_tree c g) (record {
       there = i;
       opened = o.opened;
       middle = d.store;
@@ -142,7 +142,7 @@ module _ {Key Id Name : Type 0} where
           (all z) e.store) o.asks_are
           (subst₂ (λ x y. Proves x y (e.store).universe [] rs [] d.store (all (map (goal_tree d) asks)) e.store)
           (items_stay on.grown) ((on.grown).param_env env known_env) h);
-    }
+    })
 
     pub by_asks : (asks : Vec (ClauseKey Key)) → TellsCandidate c env k g d (Asks asks) → GoesOn d e →
         (told : Verdict Key) → TellsAll d e ks env asks.items told → TellsRule c e ks env k g told

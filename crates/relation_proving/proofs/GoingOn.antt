@@ -1,8 +1,7 @@
 -- What may be asked and used stays so in a later context, and what was first-order is.
 use Rattle.std.proofs.Common.{◌≡◌, ℕ, zero, suc, ◌<◌, List, [], ◌∷◌, refl, sym, ap, subst, All, IsTrue, length}
-use Rattle.std.proofs.Common.{get_or, arith, Option, Some, None, Bool, ◌∙◌, subst₂}
-use Rattle.std.proofs.lemmas.Bool.{true≢false}
-use Rattle.std.specs.Prelude.{IfSome, is_some}
+use Rattle.std.proofs.Common.{get_or, arith, Option, Some, None}
+use Rattle.std.specs.Prelude.{IfSome}
 use Rattle.std.specs.List.{AllZip}
 use Rattle.std.proofs.lemmas.List.Elements.{All-head, All-tail}
 use Rattle.relation_terms.specs.declared.terms.binder.Binder.{Binder}
@@ -18,6 +17,7 @@ use Rattle.relation_semantics.specs.Contexts.{Context}
 use Rattle.relation_semantics.specs.Relation.{IsValueLeaf}
 use Rattle.relation_semantics.specs.Stores.{IsTermIn}
 use Rattle.relation_semantics.proofs.Going.{later_itself, later_same, later_through}
+use Rattle.relation_semantics.proofs.Shrinking.{first_order_before}
 use Rattle.relation_semantics.proofs.Standing.{later_term}
 use Rattle.kept_records.specs.Records.{SameRecord}
 use Rattle.relation_solver.specs.Rules.{Rule}
@@ -25,8 +25,7 @@ use Rattle.kept_records.proofs.Kept.{same_through}
 use Rattle.relation_proving.specs.RuleTerms.{IsRule, IsRuleOf, rule_tree}
 use Rattle.relation_proving.specs.Candidates.{MayAsk, IsFirstOrderAt, IsFirstOrderClause, IsFirstOrderRule}
 use Rattle.relation_proving.specs.RuleTerms.{MayUse}
-use Rattle.relation_proving.specs.Telling.{MayProve, GoesOn, IsBack, IsExact, KnowsBlame, goal_tree, ComesToOne}
-use Rattle.relation_solver.specs.Traces.{HasOneValue}
+use Rattle.relation_proving.specs.Telling.{MayProve, GoesOn, IsBack, IsExact, KnowsBlame, goal_tree}
 use Rattle.relation_proving.specs.declared.told.Blame.{Blame}
 use Rattle.relation_proving.proofs.Candidates.{ask_later}
 
@@ -163,9 +162,35 @@ module _ {Key Id Name : Type 0} where
   exact_back c d b ks u rs h f = exact_on c d (back_goes c d b) ks u rs h
       (subst (IsFirstOrderAt u) (sym (b.same).store) f.store) f
 
-  -- So is a goal of which all solutions made one thing, where what it comes to was found.
-  pub one_is : (c d : Context Key Id Name) (g : ClauseKey Key) → MayAsk c g → IsBack c d → (found : Option (ClauseKey Key)) →
-      ComesToOne c d g found → (enough : Bool) → enough ≡ is_some found → IsTrue enough →
-      HasOneValue d.store (goal_tree d g)
-  one_is c d g may b (Some k) one enough e h = subst₂ HasOneValue (sym (b.same).store) (sym ((b.grown).clause g may.is_known)) one.one
-  one_is c d g may b None one enough e h = absurd (true≢false (sym h ∙ e))
+  -- Rules of a later context are rules of the earlier one.
+  module _ (c d : Context Key Id Name) (g : GoesOn c d) where
+    rule_before : (k : Binder Key (ClausesKey Key)) (r : Rule) → MayUse c k → IsRuleOf d k r → IsRuleOf c k r
+    rule_before k r h f =
+        let same = rule_stays c.meaning d.meaning g.grown k h.is_known in
+        record { closed = subst (Leaves IsValueLeaf) same f.closed; is_rule = subst (λ t. IsRule t r) same f.is_rule }
+
+    pub rules_before : (ks : List (Binder Key (ClausesKey Key))) (rs : List Rule) → All (MayUse c) ks →
+        AllZip (IsRuleOf d) ks rs → AllZip (IsRuleOf c) ks rs
+    rules_before [] [] h f = tt
+    rules_before (k ∷ ks) (r ∷ rs) h f =
+        (rule_before k r (All-head (MayUse c) k ks h) f.0, rules_before ks rs (All-tail (MayUse c) k ks h) f.1)
+    rules_before [] (r ∷ rs) h f = absurd f
+    rules_before (k ∷ ks) [] h f = absurd f
+
+    first_order_rules_before : (ks : List (Binder Key (ClausesKey Key))) (rs : List Rule) → All (MayUse c) ks →
+        AllZip (IsFirstOrderRule d) ks rs → AllZip (IsFirstOrderRule c) ks rs
+    first_order_rules_before [] [] h f = tt
+    first_order_rules_before (k ∷ ks) (r ∷ rs) h f = (
+      record { rule = rule_before k r (All-head (MayUse c) k ks h) (f.0).rule; clauses = (f.0).clauses },
+      first_order_rules_before ks rs (All-tail (MayUse c) k ks h) f.1,
+    )
+    first_order_rules_before [] (r ∷ rs) h f = absurd f
+    first_order_rules_before (k ∷ ks) [] h f = absurd f
+
+    -- What is exact was so before, in the universe of then.
+    pub exact_before : (ks : List (Binder Key (ClausesKey Key))) (u : ℕ) (rs : List Rule) → All (MayUse c) ks →
+        IsExact u d ks rs → IsExact (c.store).universe c ks rs
+    exact_before ks u rs h f = record {
+      store = record { bindings = first_order_before c.store d.store g.later (f.store).bindings; universe = refl };
+      rules = first_order_rules_before ks rs h f.rules;
+    }

@@ -11,6 +11,9 @@ pub mod OneValue
 pub mod Barred
 pub mod OtherSubjects
 pub mod Searches
+pub mod WellBound
+pub mod ReadGoals
+pub mod Remembered
 pub mod Meaning
 pub mod Checked
 pub mod Ordered

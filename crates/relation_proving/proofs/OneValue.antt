@@ -1,4 +1,4 @@
--- A goal in which, or in what it comes to, no variable but of regions stands: all solutions make one of it, up to erasure.
+-- A goal in which no variable but of regions stands: all solutions make one of it, up to erasure.
 use Rattle.std.proofs.Common.{◌≡◌, ℕ, suc, refl, sym, ◌∙◌, ap, ap₂, Bool, true, false, not, []}
 use Rattle.std.proofs.lemmas.Bool.{or_parts, true≢false}
 use Rattle.relation_terms.specs.Erasure.{erase, kept_parts}
@@ -6,11 +6,10 @@ use Rattle.relation_terms.specs.Heads.{type_var, int_var, float_var, const_var, 
 use Rattle.relation_terms.specs.Heads.{atom, unknown}
 use Rattle.relation_terms.specs.Trees.{Tree, leaf, node, bind, nil, cons, Assign, apply}
 use Rattle.relation_folds.specs.Visits.{has_leaf, is_non_region_infer, non_region_infer_stands}
-use Rattle.relation_semantics.specs.Stores.{Store, InContext, IsTermIn, IsAssignment, IsSound, resolved}
+use Rattle.relation_semantics.specs.Stores.{Store, InContext, IsTermIn, IsAssignment}
 use Rattle.relation_semantics.proofs.Agreeing.{stands_sort}
 use Rattle.relation_semantics.proofs.Erased.{erase_region}
 use Rattle.relation_semantics.proofs.Standing.{term_context}
-use Rattle.relation_semantics.proofs.StoreCalls.{resolved_unifies, resolved_in}
 use Rattle.relation_solver.specs.Traces.{HasOneValue}
 
 -- All assignments of a record make one of it.
@@ -39,13 +38,7 @@ off : (b : Bool) → not b ≡ true → b ≡ false
 off true e = sym e
 off false e = refl
 
--- So it is of a goal in which none stands, and of one that comes to such a goal.
+-- So it is of a goal in which none stands.
 pub is_one : (st : Store) (t : Tree) (b : Bool) → IsTermIn st t → b ≡ non_region_infer_stands t → not b ≡ true →
     HasOneValue st t
 is_one st t b i e h s s' p p' = one_value st 0 t (sym e ∙ off b h) (term_context st t i) s s' p.0 p'.0
-
-pub comes_to_one : (st : Store) (g : IsSound st) (t : Tree) (b : Bool) → IsTermIn st t →
-    b ≡ non_region_infer_stands (apply (resolved st) t) → not b ≡ true → HasOneValue st t
-comes_to_one st g t b i e h s s' p p' =
-    sym (resolved_unifies st g s p.1 t)
-    ∙ (is_one st (apply (resolved st) t) b (resolved_in st g t i) e h s s' p p' ∙ resolved_unifies st g s' p'.1 t)

@@ -1,6 +1,6 @@
 -- What is known of the rules for a goal, as they are gone through.
-use Rattle.std.proofs.Common.{◌≡◌, ◌⊎◌, ℕ, ◌+◌, ◌<◌, ◌≤◌, List, [], ◌∷◌, ◌++◌, refl, sym, subst, All, length}
-use Rattle.std.proofs.Common.{get_or, take, arith, inl, inr, Bool, true, false, Option, Some, None}
+use Rattle.std.proofs.Common.{◌≡◌, ℕ, ◌+◌, ◌<◌, ◌≤◌, List, [], ◌∷◌, ◌++◌, refl, sym, subst, All, length}
+use Rattle.std.proofs.Common.{get_or, take, arith, Bool, true, false, Option, Some, None, IsTrue}
 use Rattle.std.specs.Prelude.{Contains, IfSome}
 use Rattle.std.specs.List.{AllZip}
 use Rattle.std.proofs.lemmas.Bool.{true≢false}
@@ -25,20 +25,21 @@ use Rattle.relation_solver.proofs.Going.{takes_alone}
 use Rattle.kept_records.proofs.Kept.{may_put_back, put_back_is, put_back_means}
 use Rattle.relation_proving.specs.declared.told.Blame.{Blame}
 use Rattle.relation_proving.specs.declared.told.Told.{Told}
+use Rattle.relation_proving.specs.declared.told.Told.TheVariants.{Yes}
 use Rattle.relation_proving.specs.declared.searching.Verdict.{Verdict}
 use Rattle.relation_proving.specs.declared.searching.Verdict.TheVariants.{Proven, Refuted, Untold}
 use Rattle.relation_proving.specs.declared.searching.Tried.{Tried}
-use Rattle.relation_proving.specs.declared.searching.Tried.TheVariants.{Follows, Fails, Unclear}
+use Rattle.relation_proving.specs.declared.searching.Tried.TheVariants.{Follows, Stays as Left, Fails, Unclear}
 use Rattle.relation_proving.specs.declared.searching.Search.{Search}
-use Rattle.relation_proving.specs.declared.searching.Search.TheVariants.{Nothing, Found, Open}
+use Rattle.relation_proving.specs.declared.searching.Search.TheVariants.{Nothing, Found, Stays, Open}
 use Rattle.relation_proving.specs.Candidates.{MayAsk, IsFirstOrderAt, IsFirstOrderClause, IsFirstOrderRule}
 use Rattle.relation_proving.specs.RuleTerms.{MayUse}
 use Rattle.relation_proving.specs.Telling.{GoesOn, IsBack, IsExact, goal_tree, TellsGoal, TellsRule}
 use Rattle.relation_proving.specs.Telling.{SaysYesBy, IsProvedBy, KnowsBlame, rule_at}
 use Rattle.relation_proving.specs.RuleTerms.{IsRuleOf}
-use Rattle.relation_proving.specs.Searching.{first_of, search_after, ends, told_by, settled, HasKept, KeepsTold, MaySettle}
-use Rattle.relation_proving.specs.Searching.{TellsTried}
-use Rattle.relation_proving.proofs.GoingOn.{zip_length, zip_at, goes_through, back_through, back_goes, blame_on}
+use Rattle.relation_proving.specs.Searching.{first_of, search_after, ends, leaves, told_by, settled, HasKept, KeepsTold}
+use Rattle.relation_proving.specs.Searching.{MaySettle, IsBackUnless, TellsTried}
+use Rattle.relation_proving.proofs.GoingOn.{zip_length, zip_at, goes_itself, goes_through, back_through, back_goes, blame_on}
 use Rattle.relation_proving.proofs.Answering.{rule_back}
 
 first_known : {Key : Type 0} (P : Blame Key → Type 0) (a b : Option (Blame Key)) → IfSome a P → IfSome b P →
@@ -59,12 +60,12 @@ module _ {S R Key Id Name : Type 0} (state : S → Context Key Id Name) (with_re
 
   module _ (c : Context Key Id Name) (ks : List (Binder Key (ClausesKey Key))) (env : ParamEnvKey Key)
       (g : ClauseKey Key) where
-    -- By the first n rules it follows by one alone, or by one where that is enough.
+    -- By the first n rules it follows by one alone.
     pub record Only (there : S) (n u : ℕ) (rs : List Rule) : Type 0 where
       pub by : Rule
       pub follows : FollowsBy u [] rs c.store (state there).store by (goal_tree c g)
       pub store : IsFirstOrderAt u (state there).store
-      pub others : HasOneValue c.store (goal_tree c g) ⊎ AllOthersFail u [] rs c.store by (goal_tree c g) (take n rs)
+      pub others : AllOthersFail u [] rs c.store by (goal_tree c g) (take n rs)
 
     -- What is known of the first n rules.
     abbrev pub TellsSearch : S → ℕ → Search R Key → Type 0
@@ -73,11 +74,31 @@ module _ {S R Key Id Name : Type 0} (state : S → Context Key Id Name) (with_re
     TellsSearch now n (Found i r) = (h : HasKept state with_record c now r) × ((u : ℕ) (rs : List Rule) →
         IsExact u c ks rs → IsFirstOrderClause (goal_tree c g) → Only h.where_kept n u rs) × (i < length ks) ×
         ((rs : List Rule) → AllZip (IsRuleOf c) ks rs → IsProvedBy c (state h.where_kept) ks env rs (rule_at rs i) g)
+    TellsSearch now n (Stays i) = TellsGoal c (state now) ks env g (Yes i)
     TellsSearch now n (Open why) = Unit {0}
 
+    -- What is recorded is what was, unless it is left.
+    abbrev pub IsBackSearch : S → Search R Key → Type 0
+    IsBackSearch now (Stays i) = GoesOn c (state now)
+    IsBackSearch now search = IsBack c (state now)
+
     pub record Searches (now : S) (n : ℕ) (search : Search R Key) : Type 0 where
-      pub back : IsBack c (state now)
+      pub back : IsBackSearch now search
       pub tells : TellsSearch now n search
+
+    pub back_goes_on : (now : S) (search : Search R Key) → IsBackSearch now search → GoesOn c (state now)
+    back_goes_on now (Nothing named) b = back_goes c (state now) b
+    back_goes_on now (Found i r) b = back_goes c (state now) b
+    back_goes_on now (Stays i) b = b
+    back_goes_on now (Open why) b = back_goes c (state now) b
+
+    -- So it is what was where another rule counts.
+    pub search_back : (now : S) (n : ℕ) (enough : Bool) (search : Search R Key) → ends enough search ≡ false →
+        Searches now n search → IsBack c (state now)
+    search_back now n enough (Nothing named) e s = s.back
+    search_back now n enough (Found i r) e s = s.back
+    search_back now n enough (Stays i) e s = absurd (true≢false e)
+    search_back now n enough (Open why) e s = s.back
 
     none_fails : (u : ℕ) (rs : List Rule) → AllFail u [] rs c.store (goal_tree c g) (take 0 rs)
     none_fails u rs q x = let below : x.0 < 0 = x.1 in absurd (omega (arith, below))
@@ -88,7 +109,7 @@ module _ {S R Key Id Name : Type 0} (state : S → Context Key Id Name) (with_re
     -- One rule more.
     module _ (now then : S) (n : ℕ) (k : Binder Key (ClausesKey Key)) (l : n < length ks) (is : k ≡ get_or ks n k)
         (known_env : KnowsEnv c env) (uses : All (MayUse c) ks) (asked : MayAsk c g) (b : IsBack c (state now))
-        (b' : IsBack (state now) (state then)) where
+        (on : GoesOn (state now) (state then)) where
       may_use : MayUse c k
       may_use = subst (MayUse c) (sym is) (All-get_or (MayUse c) ks n k l uses)
 
@@ -137,111 +158,114 @@ module _ {S R Key Id Name : Type 0} (state : S → Context Key Id Name) (with_re
         known = h.known;
       }
 
-      -- One rule more fails: what stood of the others stands.
-      others_stand : (by : Rule) (u : ℕ) (rs : List Rule) (x : IsExact u c ks rs) →
-          Did u [] rs c.store (rule (rule_at rs n) (goal_tree c g)) no →
-          HasOneValue c.store (goal_tree c g) ⊎ AllOthersFail u [] rs c.store by (goal_tree c g) (take n rs) →
-          HasOneValue c.store (goal_tree c g) ⊎ AllOthersFail u [] rs c.store by (goal_tree c g) (take (n + 1) rs)
-      others_stand by u rs x d (inl o) = inl o
-      others_stand by u rs x d (inr o) = inr (subst (AllOthersFail u [] rs c.store by (goal_tree c g))
-          (sym (one_more u rs x)) (one_other_fails u [] rs c.store (goal_tree c g) (take n rs) by (rule_at rs n) o d))
-
-      -- It follows by this one, which is enough.
-      first_is : HasOneValue c.store (goal_tree c g) → (r : R) →
-          TellsTried state with_record (state now) then ks env k g (Follows r) → TellsSearch then (n + 1) (Found n r)
-      first_is o r t = (
-        kept_before r t.0,
-        λ u rs x f.
-            let p = follows (state (t.0).where_kept) t.1 u rs x f in
-            record { by = rule_at rs n; follows = p.follows; store = p.store; others = inl o },
+      -- It follows by this one, which is enough: what is recorded then is left.
+      first_is : HasOneValue c.store (goal_tree c g) → IsSound (state then).store →
+          TellsRule (state now) (state then) ks env k g Proven → TellsGoal c (state then) ks env g (Yes n)
+      first_is o sound t = (
         l,
-        proved (state (t.0).where_kept) t.1,
+        λ u rs x f.
+            let p = follows (state then) t u rs x f in
+            let h = p.follows in
+            record {
+              did = took_first c.store h.middle (state then).store (rule_at rs n) h.vars (goal_tree c g) h.there h.takes
+                  h.asks sound o;
+              store = p.store;
+            },
+        proved (state then) t,
       )
 
-      after : (enough : Bool) → (enough ≡ true → HasOneValue c.store (goal_tree c g)) → (search : Search R Key)
-          (tried : Tried R Key) → TellsSearch now n search →
-          TellsTried state with_record (state now) then ks env k g tried →
-          TellsSearch then (n + 1) (search_after enough n search tried)
-      after enough o (Nothing named) (Follows r) s t = (
-        kept_before r t.0,
-        λ u rs x f.
-            let p = follows (state (t.0).where_kept) t.1 u rs x f in
-            record {
-              by = rule_at rs n;
-              follows = p.follows;
-              store = p.store;
-              others = inr (subst (AllOthersFail u [] rs c.store (rule_at rs n) (goal_tree c g)) (sym (one_more u rs x))
-                  (first_found u [] rs c.store (goal_tree c g) (take n rs) (rule_at rs n) (s.1 u rs x f)));
-            },
-        l,
-        proved (state (t.0).where_kept) t.1,
-      )
-      after enough o (Nothing named) (Fails again) s t = (
-        first_known (KnowsBlame (state then) ks) named again (blame_on (state now) (state then) b'.grown ks named s.0)
-            t.1,
-        λ u rs x f.
-            subst (AllFail u [] rs c.store (goal_tree c g)) (sym (one_more u rs x))
-            (one_more_fails u [] rs c.store (goal_tree c g) (take n rs) (rule_at rs n) (s.1 u rs x f)
-            (fails (state then) again t u rs x f)),
-      )
-      after enough o (Nothing named) (Unclear why) s t = tt
-      after true o (Found i r) tried s t = (
-        kept_on c now then r b'.grown s.0,
-        λ u rs x f.
-            let p = s.1 u rs x f in
-            record { by = p.by; follows = p.follows; store = p.store; others = inl (o refl) },
-        s.2,
-        s.3,
-      )
-      after false o (Found i r) (Follows q) s t = tt
-      after false o (Found i r) (Fails again) s t = (
-        kept_on c now then r b'.grown s.0,
-        λ u rs x f.
-            let p = s.1 u rs x f in
-            record {
-              by = p.by;
-              follows = p.follows;
-              store = p.store;
-              others = others_stand p.by u rs x (fails (state then) again t u rs x f) p.others;
-            },
-        s.2,
-        s.3,
-      )
-      after false o (Found i r) (Unclear why) s t = tt
-      after enough o (Open why) (Fails again) s t = tt
-      after enough o (Open why) (Unclear again) s t = tt
-      after true o (Open why) (Follows q) s t = first_is (o refl) q t
-      after false o (Open why) (Follows q) s t = tt
+      abbrev Unless : Bool → Tried R Key → Type 0
+      Unless enough tried = IsBackUnless enough (state now) (state then) tried
 
-      pub search_goes_on : (enough : Bool) → (enough ≡ true → HasOneValue c.store (goal_tree c g)) →
-          (search : Search R Key) (tried : Tried R Key) → TellsSearch now n search →
-          TellsTried state with_record (state now) then ks env k g tried →
-          Searches then (n + 1) (search_after enough n search tried)
-      search_goes_on enough o search tried s t = record {
-        back = back_through c (state now) (state then) b b';
-        tells = after enough o search tried s t;
-      }
+      module _ (enough : Bool) (o : IsTrue enough → HasOneValue c.store (goal_tree c g)) (sound : IsSound (state then).store)
+        where
+          after : (search : Search R Key) (tried : Tried R Key) → ends enough search ≡ false → TellsSearch now n search →
+              Unless enough tried → TellsTried state with_record (state now) then ks env k g tried →
+              TellsSearch then (n + 1) (search_after n search tried)
+          after (Nothing named) (Follows r) e s u t = (
+            kept_before r t.0,
+            λ v rs x f.
+                let p = follows (state (t.0).where_kept) t.1 v rs x f in
+                record {
+                  by = rule_at rs n;
+                  follows = p.follows;
+                  store = p.store;
+                  others = subst (AllOthersFail v [] rs c.store (rule_at rs n) (goal_tree c g)) (sym (one_more v rs x))
+                      (first_found v [] rs c.store (goal_tree c g) (take n rs) (rule_at rs n) (s.1 v rs x f));
+                },
+            l,
+            proved (state (t.0).where_kept) t.1,
+          )
+          after (Nothing named) Left e s u t = first_is (o u) sound t
+          after (Nothing named) (Fails again) e s u t = (
+            first_known (KnowsBlame (state then) ks) named again (blame_on (state now) (state then) on.grown ks named s.0)
+                t.1,
+            λ v rs x f.
+                subst (AllFail v [] rs c.store (goal_tree c g)) (sym (one_more v rs x))
+                (one_more_fails v [] rs c.store (goal_tree c g) (take n rs) (rule_at rs n) (s.1 v rs x f)
+                (fails (state then) again t v rs x f)),
+          )
+          after (Nothing named) (Unclear why) e s u t = tt
+          after (Found i r) (Follows q) e s u t = tt
+          after (Found i r) Left e s u t = first_is (o u) sound t
+          after (Found i r) (Fails again) e s u t = (
+            kept_on c now then r on.grown s.0,
+            λ v rs x f.
+                let p = s.1 v rs x f in
+                record {
+                  by = p.by;
+                  follows = p.follows;
+                  store = p.store;
+                  others = subst (AllOthersFail v [] rs c.store p.by (goal_tree c g)) (sym (one_more v rs x))
+                      (one_other_fails v [] rs c.store (goal_tree c g) (take n rs) p.by (rule_at rs n) p.others
+                      (fails (state then) again t v rs x f));
+                },
+            s.2,
+            s.3,
+          )
+          after (Found i r) (Unclear why) e s u t = tt
+          after (Stays i) tried e s u t = absurd (true≢false e)
+          after (Open why) (Follows q) e s u t = tt
+          after (Open why) Left e s u t = first_is (o u) sound t
+          after (Open why) (Fails again) e s u t = tt
+          after (Open why) (Unclear again) e s u t = tt
+
+          back_after : (search : Search R Key) (tried : Tried R Key) → ends enough search ≡ false → Unless enough tried →
+              IsBackSearch then (search_after n search tried)
+          back_after (Stays i) tried e u = absurd (true≢false e)
+          back_after (Nothing named) (Follows q) e u = back_through c (state now) (state then) b u
+          back_after (Nothing named) Left e u =
+              goes_through c (state now) (state then) (back_goes c (state now) b) on
+          back_after (Nothing named) (Fails again) e u = back_through c (state now) (state then) b u
+          back_after (Nothing named) (Unclear again) e u = back_through c (state now) (state then) b u
+          back_after (Found i r) (Follows q) e u = back_through c (state now) (state then) b u
+          back_after (Found i r) Left e u =
+              goes_through c (state now) (state then) (back_goes c (state now) b) on
+          back_after (Found i r) (Fails again) e u = back_through c (state now) (state then) b u
+          back_after (Found i r) (Unclear again) e u = back_through c (state now) (state then) b u
+          back_after (Open why) (Follows q) e u = back_through c (state now) (state then) b u
+          back_after (Open why) Left e u =
+              goes_through c (state now) (state then) (back_goes c (state now) b) on
+          back_after (Open why) (Fails again) e u = back_through c (state now) (state then) b u
+          back_after (Open why) (Unclear again) e u = back_through c (state now) (state then) b u
+
+          pub search_goes_on : (search : Search R Key) (tried : Tried R Key) → ends enough search ≡ false →
+              TellsSearch now n search → Unless enough tried →
+              TellsTried state with_record (state now) then ks env k g tried →
+              Searches then (n + 1) (search_after n search tried)
+          search_goes_on search tried e s u t =
+              record { back = back_after search tried e u; tells = after search tried e s u t }
 
     -- No other rule counts: it is as if all were tried.
-    pub search_ends : (now : S) (n : ℕ) (enough : Bool) → (enough ≡ true → HasOneValue c.store (goal_tree c g)) →
-        (search : Search R Key) → ends enough search ≡ true → Searches now n search → Searches now (length ks) search
-    search_ends now n enough o (Found i r) e s = record {
-      back = s.back;
-      tells = (
-        (s.tells).0,
-        λ u rs x f.
-            let p = (s.tells).1 u rs x f in
-            record { by = p.by; follows = p.follows; store = p.store; others = inl (o e) },
-        (s.tells).2,
-        (s.tells).3,
-      );
-    }
-    search_ends now n enough o (Nothing named) e s = absurd (true≢false (sym e))
-    search_ends now n enough o (Open why) e s = record { back = s.back; tells = tt }
+    pub search_ends : (now : S) (n : ℕ) (enough : Bool) (search : Search R Key) → ends enough search ≡ true →
+        Searches now n search → Searches now (length ks) search
+    search_ends now n enough (Nothing named) e s = absurd (true≢false (sym e))
+    search_ends now n enough (Found i r) e s = absurd (true≢false (sym e))
+    search_ends now n enough (Stays i) e s = record { back = s.back; tells = s.tells }
+    search_ends now n enough (Open why) e s = record { back = s.back; tells = tt }
 
     -- All rules were tried.
-    module _ (stands : (r : R) → StandsOn state with_record r) (sound : (x : S) → (state x).lawful → IsSound (state x).store)
-        (now : S) (n : ℕ) (all : length ks ≤ n) where
+    module _ (stands : (r : R) → StandsOn state with_record r) (now : S) (n : ℕ) (all : length ks ≤ n) where
       whole : (u : ℕ) (rs : List Rule) → IsExact u c ks rs → take n rs ≡ rs
       whole u rs x =
           let same = zip_length (IsFirstOrderRule c) ks rs x.rules in
@@ -250,37 +274,28 @@ module _ {S R Key Id Name : Type 0} (state : S → Context Key Id Name) (with_re
       pub may_settle : (search : Search R Key) → TellsSearch now n search → MaySettle state with_record now search
       may_settle (Nothing named) s = tt
       may_settle (Found i r) s = may_put_back state with_record r (s.0).where_kept now (s.0).is (stands r) (s.0).known
+      may_settle (Stays i) s = tt
       may_settle (Open why) s = tt
 
       put_back_same : (r : R) (h : HasKept state with_record c now r) →
           SameRecord (state h.where_kept) (state (with_record now r))
       put_back_same r h = put_back_is state with_record r h.where_kept now h.is (stands r) h.known
 
-      settled_goes : (search : Search R Key) → IsBack c (state now) → TellsSearch now n search →
-          GoesOn c (state (settled with_record now search))
-      settled_goes (Nothing named) b s = back_goes c (state now) b
-      settled_goes (Found i r) b s = record {
-        later = subst (IsLater c.store) (sym (put_back_same r s.0).store) ((s.0).goes_on).later;
+      -- What is recorded then came of what is recorded now.
+      settled_later : (search : Search R Key) → IsBackSearch now search → TellsSearch now n search →
+          GoesOn (state now) (state (settled with_record now search))
+      settled_later (Nothing named) b s = goes_itself (state now) b.lawful
+      settled_later (Found i r) b s = record {
+        later = subst (λ z. IsLater z (state (with_record now r)).store) (sym (b.same).store)
+            (subst (IsLater c.store) (sym (put_back_same r s.0).store) ((s.0).goes_on).later);
         lawful = may_settle (Found i r) s;
-        grown = subst (Extends c.meaning) (sym (put_back_means state with_record r (s.0).where_kept now (s.0).is
-            (stands r) (s.0).known)) b.grown;
+        grown = subst (Extends (state now).meaning) (sym (put_back_means state with_record r (s.0).where_kept now (s.0).is
+            (stands r) (s.0).known)) (stays_same (state now).meaning);
       }
-      settled_goes (Open why) b s = back_goes c (state now) b
+      settled_later (Stays i) b s = goes_itself (state now) b.lawful
+      settled_later (Open why) b s = goes_itself (state now) b.lawful
 
-      -- The one by which it follows is taken alone, or first.
-      takes_one : (there : S) (u : ℕ) (rs : List Rule) → (state there).lawful → IsExact u c ks rs → Only there n u rs →
-          Did u [] rs c.store (goal (goal_tree c g)) (yes (state there).store)
-      takes_one there u rs l x p = go p.others
-        where
-          go : HasOneValue c.store (goal_tree c g) ⊎ AllOthersFail u [] rs c.store p.by (goal_tree c g) (take n rs) →
-              Did u [] rs c.store (goal (goal_tree c g)) (yes (state there).store)
-          go (inl o) = let f = p.follows in
-              took_first c.store f.middle (state there).store p.by f.vars (goal_tree c g) f.there f.takes f.asks
-              (sound there l) o
-          go (inr o) = takes_alone u [] rs c.store (state there).store p.by (goal_tree c g) p.follows
-              (subst (AllOthersFail u [] rs c.store p.by (goal_tree c g)) (whole u rs x) o)
-
-      settled_tells : (search : Search R Key) → IsBack c (state now) → TellsSearch now n search →
+      settled_tells : (search : Search R Key) → IsBackSearch now search → TellsSearch now n search →
           TellsGoal c (state (settled with_record now search)) ks env g (told_by search)
       settled_tells (Nothing named) b s = (
         b,
@@ -295,18 +310,23 @@ module _ {S R Key Id Name : Type 0} (state : S → Context Key Id Name) (with_re
                 let o = s.1 u rs x f in
                 record {
                   did = subst (λ z. Did u [] rs c.store (goal (goal_tree c g)) (yes z)) (sym same)
-                      (takes_one (s.0).where_kept u rs ((s.0).goes_on).lawful x o);
+                      (takes_alone u [] rs c.store (state (s.0).where_kept).store o.by (goal_tree c g) o.follows
+                      (subst (AllOthersFail u [] rs c.store o.by (goal_tree c g)) (whole u rs x) o.others));
                   store = subst (IsFirstOrderAt u) (sym same) o.store;
                 },
             λ rs x. subst (λ z. ProvesBy (items_of c.meaning) ((c.meaning).param_env env) z.universe [] rs [] c.store z
                 (rule_at rs i) (goal_tree c g)) (sym same) (s.3 rs x),
           )
+      settled_tells (Stays i) b s = s
       settled_tells (Open why) b s = b
 
       -- So it is of what is answered.
       module _ (search : Search R Key) (s : Searches now n search) (then : S) (is : then ≡ settled with_record now search) where
+        pub settles_later : GoesOn (state now) (state then)
+        settles_later = subst (λ z. GoesOn (state now) (state z)) (sym is) (settled_later search s.back s.tells)
+
         pub settles_goes : GoesOn c (state then)
-        settles_goes = subst (λ z. GoesOn c (state z)) (sym is) (settled_goes search s.back s.tells)
+        settles_goes = goes_through c (state now) (state then) (back_goes_on now search s.back) settles_later
 
         pub settles_tells : (told : Told Key) → told ≡ told_by search → TellsGoal c (state then) ks env g told
         settles_tells told e = subst (TellsGoal c (state then) ks env g) (sym e)
@@ -330,6 +350,28 @@ module _ {S R Key Id Name : Type 0} (state : S → Context Key Id Name) (with_re
     tried_tells (Refuted named) (Unclear again) t h = absurd h
     tried_tells (Untold why) (Follows r) t h = absurd h
     tried_tells (Untold why) (Fails again) t h = absurd h
+    tried_tells Proven Left t h = absurd h
+    tried_tells (Refuted named) Left t h = absurd h
+    tried_tells (Untold why) Left t h = absurd h
+
+  -- What is kept is put back.
+  pub back_kept : (now : S) (told : Verdict Key) (tried : Tried R Key) → KeepsTold state with_record now told tried →
+      (enough : Bool) (c d : Context Key Id Name) → IsBack c d → IsBackUnless enough c d tried
+  back_kept now told (Follows r) h enough c d b = b
+  back_kept now told (Fails again) h enough c d b = b
+  back_kept now told (Unclear again) h enough c d b = b
+  back_kept now Proven Left h enough c d b = absurd h
+  back_kept now (Refuted named) Left h enough c d b = absurd h
+  back_kept now (Untold why) Left h enough c d b = absurd h
+
+  -- What is left after a rule was one by which the goal follows, and that is enough.
+  pub left_tells : (c : Context Key Id Name) (now : S) (ks : List (Binder Key (ClausesKey Key)))
+      (env : ParamEnvKey Key) (k : Binder Key (ClausesKey Key)) (g : ClauseKey Key) (enough : Bool) (told : Verdict Key) →
+      leaves enough told ≡ true → TellsRule c (state now) ks env k g told →
+      IsTrue enough × TellsTried state with_record c now ks env k g Left
+  left_tells c now ks env k g enough Proven e t = (e, t)
+  left_tells c now ks env k g enough (Refuted named) e t = absurd (true≢false (sym e))
+  left_tells c now ks env k g enough (Untold why) e t = absurd (true≢false (sym e))
 
   -- The record that was kept before may be put back, and is what was then.
   module _ (before now then : S) (r : R) (is : IsRecordOf (state before) (state (with_record before r)))

@@ -6,6 +6,7 @@ pub mod Candidates
 pub mod Barring
 pub mod Telling
 pub mod Searching
+pub mod Remembering
 pub mod Answers
 pub mod Checking
 pub mod Spent

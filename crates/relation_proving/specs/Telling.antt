@@ -6,6 +6,7 @@
 --   IsExact u c ks rs            the rules and what is recorded are first-order, and these are the rules' trees
 --   KnowsBlame d ks b            the goal to which a no is due is known, and one of the rules asked for it
 --   rule_at rs n                 which rule a place's key is, as a tree
+--   ComesToGoal c d g k          a goal comes to another one by what is recorded
 --   ComesToOne c d g found       a goal comes to this, in which no variable but of regions stands
 --   IsProved c d ks e rs q       what was asked was proved, and no goal is left
 --   IsProvedBy c d ks e rs r g   a goal was proved by a rule
@@ -14,23 +15,26 @@
 --   TellsGoal c d ks e g told    what is told of a goal
 --   TellsAll c d ks e gs told    of all of a list
 --   TellsRule c d ks e k g told  of a goal and one rule
-use Rattle.std.specs.Prelude.{ℕ, ◌<◌, List, [], All, map, length, get_or, Contains, IfSome, IsTrue, Option, Some, None}
+use Rattle.std.specs.Prelude.{◌≡◌, ℕ, ◌<◌, List, [], All, map, length, get_or, Contains, IfSome, IsTrue, Option, Some}
+use Rattle.std.specs.Prelude.{None}
 use Rattle.std.specs.List.{AllZip}
 use Rattle.relation_terms.specs.declared.terms.binder.Binder.{Binder}
 use Rattle.relation_terms.specs.declared.terms.keys.ClauseKey.{ClauseKey}
 use Rattle.relation_terms.specs.declared.terms.keys.ClausesKey.{ClausesKey}
 use Rattle.relation_terms.specs.declared.terms.keys.ParamEnvKey.{ParamEnvKey}
-use Rattle.relation_terms.specs.Trees.{Tree, nil, known, Assign}
+use Rattle.relation_terms.specs.Trees.{Tree, nil, known, Assign, apply}
 use Rattle.relation_terms.specs.Meaning.{Extends}
 use Rattle.relation_semantics.specs.Contexts.{Context, KnowsEnv}
 use Rattle.relation_semantics.specs.Steps.{IsLater}
-use Rattle.relation_semantics.specs.FirstOrder.{IsErasedSolution, Unifies}
+use Rattle.relation_semantics.specs.FirstOrder.{IsErasedSolution, IsFirstOrderStore, Unifies}
+use Rattle.relation_semantics.specs.Relation.{Interpretation}
+use Rattle.relation_semantics.specs.Stores.{Satisfies}
 use Rattle.kept_records.specs.Records.{SameRecord}
 use Rattle.relation_semantics.specs.Lawful.{items_of}
 use Rattle.relation_solver.specs.Rules.{Rule, Asked, given, one, all}
 use Rattle.relation_solver.specs.Traces.{Did, goal, goals, rule, yes, no, HasOneValue, FollowsBy, Proves, ProvesBy}
 use Rattle.relation_proving.specs.RuleTerms.{MayUse, IsRuleOf}
-use Rattle.relation_proving.specs.Candidates.{IsFirstOrderAt, IsFirstOrderClause, IsFirstOrderRule}
+use Rattle.relation_proving.specs.Candidates.{MayAsk, IsFirstOrderAt, IsFirstOrderClause, IsFirstOrderRule}
 use Rattle.relation_proving.specs.declared.told.Blame.{Blame}
 use Rattle.relation_proving.specs.declared.told.Told.{Told}
 use Rattle.relation_proving.specs.declared.told.Told.TheVariants.{Yes, No, Maybe}
@@ -76,12 +80,20 @@ module _ {Key Id Name : Type 0} where
   abbrev pub goal_tree : Context Key Id Name → ClauseKey Key → Tree
   goal_tree c g = (c.meaning).clause g
 
-  -- What a goal comes to was found to be one thing under all solutions, up to erasure.
+  -- A goal is read as another one by what is recorded: each assignment makes one of both.
+  pub record ComesToGoal (c d : Context Key Id Name) (g k : ClauseKey Key) : Type 0 where
+    pub may_ask : MayAsk d k
+    pub same_value : (w : Interpretation) (s : Assign) → Satisfies w c.store s →
+        apply s (goal_tree d k) ≡ apply s (goal_tree c g)
+    pub same_erased : (s : Assign) → IsErasedSolution c.store s → Unifies s (goal_tree d k) (goal_tree c g)
+    pub first_order : IsFirstOrderStore c.store → IsFirstOrderClause (goal_tree c g) →
+        IsFirstOrderClause (goal_tree d k)
+
+  -- Of what it is read as all solutions make one thing, up to erasure.
   module _ (c d : Context Key Id Name) (g : ClauseKey Key) where
     pub record IsOne (k : ClauseKey Key) : Type 0 where
-      pub is_known : IsTrue (known (goal_tree d k))
-      pub same : (s : Assign) → IsErasedSolution c.store s → Unifies s (goal_tree d k) (goal_tree c g)
-      pub one : HasOneValue c.store (goal_tree c g)
+      pub is_read : ComesToGoal c d g k
+      pub one : HasOneValue d.store (goal_tree d k)
 
     abbrev pub ComesToOne : Option (ClauseKey Key) → Type 0
     ComesToOne (Some k) = IsOne k

@@ -2,6 +2,7 @@
 //! and what it asks for is proved in turn.
 #![tactic(auto)]
 
+mod asked;
 mod barring;
 mod blaming;
 pub mod candidate;

@@ -5,27 +5,28 @@ ghost use Rattle.relation_semantics.specs.Steps.{IsLater};
 ghost use Rattle.relation_solver.specs.Traces.{HasOneValue};
 ghost use Rattle.relation_proving.specs.Candidates.{MayAsk};
 ghost use Rattle.relation_proving.specs.RuleTerms.{MayUse};
-ghost use Rattle.relation_proving.specs.Telling.{MayProve, GoesOn, IsBack, TellsGoal, TellsAll, TellsRule};
-ghost use Rattle.relation_proving.specs.Searching.{TellsRound, TellsTried};
+ghost use Rattle.relation_proving.specs.Telling.{MayProve, GoesOn, TellsGoal, TellsAll, TellsRule};
+ghost use Rattle.relation_proving.specs.Searching.{IsBackUnless, TellsRound, TellsTried};
+ghost use Rattle.relation_proving.specs.Remembering.{MayGoOn, RemembersAll, RemembersMore};
 ghost use Rattle.relation_proving.specs.Answers.{YesDerives, YesIsBy, YesMakesFollow, YesLosesNone};
 ghost use Rattle.relation_proving.specs.Answers.{NoFollowsNever, NoNamesKnown, YesStaysFirstOrder, LeavesNothing};
 
+use crate::asked::AskedGoals;
 use crate::barring::is_passed_over;
 use crate::blaming::blame_of;
 use crate::candidate::{Candidate, try_rule};
 use crate::opening::RuleOf;
 use crate::ordering::is_of_variable;
-use crate::reading::comes_to_one;
+use crate::reading::{ReadGoal, comes_to_one};
 use crate::searching::{
-    Round, RoundOf, Search, Tried, TriedOf, Verdict, VerdictOf, is_over, keep_told, settle,
-    with_tried, worse,
+    Round, RoundOf, Search, Tried, TriedOf, Verdict, VerdictOf, is_left, is_over, keep_told,
+    settle, with_tried, worse,
 };
-use crate::spent::SpentGoals;
 pub use crate::told::{Blame, BlameOf, Told, ToldOf, Why};
 use kept_records::KeepsRecord;
 use relation_folds::error::RelateResult;
 use relation_solver::laws;
-use relation_terms::terms::{Clause, Interner, ParamEnv, Span};
+use relation_terms::terms::{Clause, Interner, Keys, ParamEnv, Span};
 
 /// Whether a goal follows from rules, within a depth: such as impls, and what an environment has, each of its clauses
 /// as a rule that binds nothing and asks for nothing.
@@ -34,12 +35,13 @@ use relation_terms::terms::{Clause, Interner, ParamEnv, Span};
 /// depth, in rounds, what says something of a variable last: what isn't told of a goal is asked again once another was
 /// proved. It is `Yes` where the goal follows by one rule alone and no other is left, and, where no variable but of
 /// regions stands in what it comes to by what is recorded, by the first rule by which it follows; the record is then
-/// what that one leaves, and the answer has its place. Where more than one rule is left it is `Maybe(Ambiguous)`, and
-/// so it is where a binder that binds something, another predicate than that a trait is implemented or to what an
-/// alias comes, or a goal that relating leaves stands in the way; where the depth is spent, `Maybe(Depth)`, which
-/// counts first. A `No` names the goal that failed in the end, and the rule that asked for it, of the first rule that
-/// gives the goal; it names none where no rule does. An alias stands for itself, but where a goal or a rule says to
-/// what it comes.
+/// what that one leaves, and the answer has its place. A goal that was proved so is not proved again while that is
+/// recorded, however little is left of the depth. Where more than one rule is left it is `Maybe(Ambiguous)`, and so it
+/// is where a binder that binds something, another predicate than that a trait is implemented or to what an alias
+/// comes, or a goal that relating leaves stands in the way; where the depth is spent, `Maybe(Depth)`, which counts
+/// first. A `No` names the goal that failed in the end, and the rule that asked for it, of the first rule that gives
+/// the goal; it names none where no rule does. An alias stands for itself, but where a goal or a rule says to what it
+/// comes.
 ///
 /// The interner has to know the environment, the rules and the goal, whose binders bind by their lists; their variables
 /// and placeholders are the context's. Where no variable stands in a rule, each assignment that satisfies what is
@@ -76,11 +78,12 @@ pub fn prove<C: KeepsRecord>(
 {
     laws::derivations();
     laws::goals();
-    let mut spent = SpentGoals::new(ctx.cx().alloc());
-    follows(ctx, rules, param_env, goal, depth, span, &mut spent)
+    let mut asked = AskedGoals::new(ctx.cx().alloc());
+    follows(ctx, rules, param_env, goal, depth, span, &mut asked)
 }
 
-// Whether a goal follows. One whose depth was spent with as many levels left spends it again.
+// Whether a goal follows. One that was proved in what is recorded is not proved again, and one whose depth was spent with
+// as many levels left spends it again.
 #[cycle(proving)]
 fn follows<C: KeepsRecord>(
     ctx: &mut C,
@@ -89,23 +92,31 @@ fn follows<C: KeepsRecord>(
     goal: &Clause<C::Interner>,
     depth: usize,
     span: Span<C::Interner>,
-    spent: &mut SpentGoals<Clause<C::Interner>>,
+    asked: &mut AskedGoals<Clause<C::Interner>>,
 ) -> RelateResult<C::Interner, ToldOf<C::Interner>>
     requires may { MayProve (C.state ctx.old) rules.now param_env }
     requires goal { MayAsk (C.state ctx.old) goal.now }
+    requires remembers { RemembersAll (C.state ctx.old) rules.now param_env asked.old }
     ensures goes_on { GoesOn (C.state ctx.old) (C.state ctx.new) }
     ensures tells { IfOk result (TellsGoal (C.state ctx.old) (C.state ctx.new) rules.now param_env goal.now) }
+    ensures remembers { let d = C.state ctx.new in
+        IfOk result (λ r. RemembersMore d rules.now param_env asked.old asked.new) }
 {
     if depth == 0 {
         return Ok(Told::Maybe(Why::Depth));
     }
     let one = comes_to_one(ctx, goal)?;
-    if spent.spends(&one, depth) {
-        return Ok(Told::Maybe(Why::Depth));
+    if let Some(told) = asked.find(&one, depth) {
+        return Ok(told);
     }
     let enough = one.is_some();
-    let told = follows_by_some(ctx, rules, param_env, goal, enough, depth - 1, span, spent)?;
-    spent.insert(one, &told, depth)?;
+    let read = one.unwrap_or(*goal);
+    let asks = ReadGoal {
+        goal: read,
+        is_one: enough,
+    };
+    let told = follows_by_some(ctx, rules, param_env, &asks, depth - 1, span, asked)?;
+    asked.insert(one, &told, depth)?;
     Ok(told)
 }
 
@@ -116,32 +127,36 @@ fn follows_by_some<C: KeepsRecord>(
     ctx: &mut C,
     rules: &[RuleOf<C::Interner>],
     param_env: ParamEnv<C::Interner>,
-    goal: &Clause<C::Interner>,
-    enough: bool,
+    read: &ReadGoal<<C::Interner as Keys>::Key>,
     depth: usize,
     span: Span<C::Interner>,
-    spent: &mut SpentGoals<Clause<C::Interner>>,
+    asked: &mut AskedGoals<Clause<C::Interner>>,
 ) -> RelateResult<C::Interner, ToldOf<C::Interner>>
     requires may { MayProve (C.state ctx.old) rules.now param_env }
-    requires goal { MayAsk (C.state ctx.old) goal.now }
-    requires one { let c = C.state ctx.old in IsTrue enough → HasOneValue c.store ((c.meaning).clause goal.now) }
+    requires goal { MayAsk (C.state ctx.old) read.now.goal }
+    requires one { let c = C.state ctx.old in
+        IsTrue read.now.is_one → HasOneValue c.store ((c.meaning).clause read.now.goal) }
+    requires remembers { RemembersAll (C.state ctx.old) rules.now param_env asked.old }
     ensures goes_on { GoesOn (C.state ctx.old) (C.state ctx.new) }
-    ensures tells { IfOk result (TellsGoal (C.state ctx.old) (C.state ctx.new) rules.now param_env goal.now) }
+    ensures tells { IfOk result (TellsGoal (C.state ctx.old) (C.state ctx.new) rules.now param_env read.now.goal) }
+    ensures remembers { let d = C.state ctx.new in
+        IfOk result (λ r. RemembersMore d rules.now param_env asked.old asked.new) }
 {
     let mut search = Search::Nothing(None);
     for (place, rule) in rules.iter().enumerate() {
-        if is_over(&search, enough) {
+        if is_over(&search, read.is_one) {
             return Ok(settle(ctx, search));
         }
         let tried = try_and_put_back(
-            ctx, rules, param_env, *rule, place, goal, depth, span, spent,
+            ctx, rules, param_env, *rule, place, read, depth, span, asked,
         )?;
-        search = with_tried(search, place, tried, enough);
+        search = with_tried(search, place, tried);
     }
     Ok(settle(ctx, search))
 }
 
-// Tries a rule, and puts the record back. One that gives another trait or form is passed over.
+// Tries a rule, and puts the record back, unless the goal follows by it and that is enough. One that gives another trait
+// or form is passed over.
 #[cycle(proving)]
 fn try_and_put_back<C: KeepsRecord>(
     ctx: &mut C,
@@ -149,27 +164,36 @@ fn try_and_put_back<C: KeepsRecord>(
     param_env: ParamEnv<C::Interner>,
     rule: RuleOf<C::Interner>,
     place: usize,
-    goal: &Clause<C::Interner>,
+    read: &ReadGoal<<C::Interner as Keys>::Key>,
     depth: usize,
     span: Span<C::Interner>,
-    spent: &mut SpentGoals<Clause<C::Interner>>,
+    asked: &mut AskedGoals<Clause<C::Interner>>,
 ) -> RelateResult<C::Interner, TriedOf<C::Record, C::Interner>>
-    requires may { MayProve (C.state ctx.old) rules.now param_env }
+    requires may { MayGoOn (C.state ctx.old) rules.now param_env asked.old }
     requires rule { MayUse (C.state ctx.old) rule }
     requires place { place < length rules.now }
-    requires goal { MayAsk (C.state ctx.old) goal.now }
+    requires goal { MayAsk (C.state ctx.old) read.now.goal }
     ensures goes_on { GoesOn (C.state ctx.old) (C.state ctx.new) }
-    ensures back { IfOk result (λ r. IsBack (C.state ctx.old) (C.state ctx.new)) }
+    ensures back { IfOk result (IsBackUnless read.now.is_one (C.state ctx.old) (C.state ctx.new)) }
     ensures tells { let c = C.state ctx.old in
-        IfOk result (TellsTried C.state C.with_record c ctx.new rules.now param_env rule goal.now) }
+        IfOk result (TellsTried C.state C.with_record c ctx.new rules.now param_env rule read.now.goal) }
+    ensures remembers { let d = C.state ctx.new in
+        IfOk result (λ r. RemembersMore d rules.now param_env asked.old asked.new) }
 {
-    if is_passed_over(&*ctx, &rule, goal) {
+    if is_passed_over(&*ctx, &rule, &read.goal) {
         return Ok(Tried::Fails(None));
     }
     let before = ctx.keep()?;
-    let told = follows_by(ctx, rules, param_env, rule, place, goal, depth, span, spent)?;
+    let proved = asked.len();
+    let told = follows_by(
+        ctx, rules, param_env, rule, place, &read.goal, depth, span, asked,
+    )?;
+    if is_left(&told, read.is_one) {
+        return Ok(Tried::Stays);
+    }
     let tried = keep_told(&*ctx, told)?;
     ctx.put_back(before);
+    asked.truncate(proved);
     Ok(tried)
 }
 
@@ -184,17 +208,20 @@ fn follows_by<C: KeepsRecord>(
     goal: &Clause<C::Interner>,
     depth: usize,
     span: Span<C::Interner>,
-    spent: &mut SpentGoals<Clause<C::Interner>>,
+    asked: &mut AskedGoals<Clause<C::Interner>>,
 ) -> RelateResult<C::Interner, VerdictOf<C::Interner>>
     requires may { MayProve (C.state ctx.old) rules.now param_env }
     requires rule { MayUse (C.state ctx.old) rule }
     requires place { place < length rules.now }
     requires goal { MayAsk (C.state ctx.old) goal.now }
+    requires remembers { RemembersAll (C.state ctx.old) rules.now param_env asked.old }
     ensures goes_on { GoesOn (C.state ctx.old) (C.state ctx.new) }
     ensures tells { IfOk result (TellsRule (C.state ctx.old) (C.state ctx.new) rules.now param_env rule goal.now) }
+    ensures remembers { let d = C.state ctx.new in
+        IfOk result (λ r. RemembersMore d rules.now param_env asked.old asked.new) }
 {
     match try_rule(ctx, param_env, rule, goal, span)? {
-        Candidate::Asks(asks) => all_follow(ctx, rules, param_env, asks, place, depth, span, spent),
+        Candidate::Asks(asks) => all_follow(ctx, rules, param_env, asks, place, depth, span, asked),
         Candidate::Apart => Ok(Verdict::Refuted(None)),
         Candidate::Unclear => Ok(Verdict::Untold(Why::Ambiguous)),
     }
@@ -210,17 +237,20 @@ fn all_follow<C: KeepsRecord>(
     place: usize,
     depth: usize,
     span: Span<C::Interner>,
-    spent: &mut SpentGoals<Clause<C::Interner>>,
+    asked: &mut AskedGoals<Clause<C::Interner>>,
 ) -> RelateResult<C::Interner, VerdictOf<C::Interner>>
     requires may { MayProve (C.state ctx.old) rules.now param_env }
     requires asks { All (MayAsk (C.state ctx.old)) asks.items }
     requires place { place < length rules.now }
+    requires remembers { RemembersAll (C.state ctx.old) rules.now param_env asked.old }
     ensures goes_on { GoesOn (C.state ctx.old) (C.state ctx.new) }
     ensures tells { IfOk result (TellsAll (C.state ctx.old) (C.state ctx.new) rules.now param_env asks.items) }
+    ensures remembers { let d = C.state ctx.new in
+        IfOk result (λ r. RemembersMore d rules.now param_env asked.old asked.new) }
 {
     let mut left = asks;
     'rounds: while !left.is_empty() {
-        match one_follows(ctx, rules, param_env, &left, place, depth, span, spent)? {
+        match one_follows(ctx, rules, param_env, &left, place, depth, span, asked)? {
             Round::Proved(number) => {
                 left.remove(number);
             }
@@ -242,13 +272,16 @@ fn one_follows<C: KeepsRecord>(
     by: usize,
     depth: usize,
     span: Span<C::Interner>,
-    spent: &mut SpentGoals<Clause<C::Interner>>,
+    asked: &mut AskedGoals<Clause<C::Interner>>,
 ) -> RelateResult<C::Interner, RoundOf<C::Interner>>
     requires may { MayProve (C.state ctx.old) rules.now param_env }
     requires goals { All (MayAsk (C.state ctx.old)) goals.now }
     requires by { by < length rules.now }
+    requires remembers { RemembersAll (C.state ctx.old) rules.now param_env asked.old }
     ensures goes_on { GoesOn (C.state ctx.old) (C.state ctx.new) }
     ensures tells { IfOk result (TellsRound (C.state ctx.old) (C.state ctx.new) rules.now param_env goals.now) }
+    ensures remembers { let d = C.state ctx.new in
+        IfOk result (λ r. RemembersMore d rules.now param_env asked.old asked.new) }
 {
     let mut why = Why::Ambiguous;
     for of_variable in [false, true] {
@@ -256,7 +289,7 @@ fn one_follows<C: KeepsRecord>(
             if is_of_variable(&*ctx, goal) != of_variable {
                 continue;
             }
-            match follows(ctx, rules, param_env, goal, depth, span, spent)? {
+            match follows(ctx, rules, param_env, goal, depth, span, asked)? {
                 Told::Yes(_) => return Ok(Round::Proved(place)),
                 Told::No(named) => {
                     let blame = blame_of(ctx, rules, named, goal, by)?;

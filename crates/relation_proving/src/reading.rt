@@ -11,7 +11,7 @@ use crate::opening::RuleOf;
 use relation_folds::visit::has_non_region_infer;
 use relation_semantics::infer_ctxt::InferCtxtLike;
 use relation_terms::predicate::{ClauseForm, ClauseKind, ProjectionPredicate};
-use relation_terms::terms::{ArgsKey, Clause, Interner, Keys, OutOfMemory};
+use relation_terms::terms::{ArgsKey, Clause, ClauseKey, Interner, Keys, OutOfMemory};
 
 /// What an interner's clause says.
 pub type ClauseKindOf<I> = ClauseKind<<I as Keys>::Key, <I as Keys>::Id, <I as Keys>::Name>;
@@ -39,6 +39,14 @@ pub fn clause_body<I: Interner>(cx: &I, clause: &Clause<I>) -> Option<ClauseKind
 {
     let form = cx.clause_kind(clause);
     unbound(cx, form)
+}
+
+/// A goal, read by what is recorded.
+#[derive(Clone, Copy)]
+pub(crate) struct ReadGoal<X> {
+    pub(crate) goal: ClauseKey<X>,
+    /// All solutions make one thing of it.
+    pub(crate) is_one: bool,
 }
 
 /// What a goal comes to by what is recorded, if no variable but of regions stands in it: then all solutions make one of

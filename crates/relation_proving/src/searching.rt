@@ -1,6 +1,6 @@
 //! What is known of rules and of lists of goals while they are gone through.
 ghost use Rattle.std.specs.Prelude.{◌≡◌, IfOk};
-ghost use Rattle.relation_proving.specs.Searching.{worse_of, search_after, ends, told_by, settled};
+ghost use Rattle.relation_proving.specs.Searching.{worse_of, search_after, ends, leaves, told_by, settled};
 ghost use Rattle.relation_proving.specs.Searching.{KeepsTold, MaySettle};
 
 use crate::blaming::first_named;
@@ -41,6 +41,8 @@ pub(crate) type RoundOf<I> = Round<<I as Keys>::Key>;
 pub(crate) enum Tried<R, X: Copy> {
     /// The goal follows by it, and this is recorded then.
     Follows(R),
+    /// It follows by it, which is enough: what is recorded then is left.
+    Stays,
     /// It doesn't, which is due to this goal if one was asked for.
     Fails(Option<Blame<X>>),
     /// That isn't told.
@@ -57,6 +59,8 @@ pub(crate) enum Search<R, X: Copy> {
     Nothing(Option<Blame<X>>),
     /// It follows by the one at this place alone, and this is recorded then.
     Found(usize, R),
+    /// It follows by the one at this place, which is enough: what is recorded then is left.
+    Stays(usize),
     /// It may follow by several, or that isn't told.
     Open(Why),
 }
@@ -74,39 +78,31 @@ pub(crate) fn worse(first: Why, second: Why) -> Why
     }
 }
 
-/// What is known with one rule more, which is at this place. Where one answer is enough the first rule counts by which
-/// the goal follows.
+/// What is known with one rule more, which is at this place.
 pub(crate) fn with_tried<R: Drop, X: Copy>(
     search: Search<R, X>,
     place: usize,
     tried: Tried<R, X>,
-    enough: bool,
 ) -> Search<R, X>
-    ensures { result ≡ search_after enough place search tried }
+    ensures { result ≡ search_after place search tried }
 {
     match search {
         Search::Nothing(named) => match tried {
             Tried::Follows(record) => Search::Found(place, record),
+            Tried::Stays => Search::Stays(place),
             Tried::Fails(again) => Search::Nothing(first_named(named, again)),
             Tried::Unclear(why) => Search::Open(why),
         },
-        Search::Found(by, record) => {
-            if enough {
-                return Search::Found(by, record);
-            }
-            match tried {
-                Tried::Follows(_) => Search::Open(Why::Ambiguous),
-                Tried::Fails(_) => Search::Found(by, record),
-                Tried::Unclear(why) => Search::Open(why),
-            }
-        }
+        Search::Found(by, record) => match tried {
+            Tried::Follows(_) => Search::Open(Why::Ambiguous),
+            Tried::Stays => Search::Stays(place),
+            Tried::Fails(_) => Search::Found(by, record),
+            Tried::Unclear(why) => Search::Open(why),
+        },
+        Search::Stays(by) => Search::Stays(by),
         Search::Open(why) => match tried {
-            Tried::Follows(record) => {
-                if enough {
-                    return Search::Found(place, record);
-                }
-                Search::Open(why)
-            }
+            Tried::Stays => Search::Stays(place),
+            Tried::Follows(_) => Search::Open(why),
             Tried::Fails(_) => Search::Open(why),
             Tried::Unclear(again) => Search::Open(worse(why, again)),
         },
@@ -119,9 +115,21 @@ pub(crate) fn is_over<R, X: Copy>(search: &Search<R, X>, enough: bool) -> bool
 {
     match search {
         Search::Nothing(_) => false,
-        Search::Found(..) => enough,
+        Search::Found(..) => false,
+        Search::Stays(_) => true,
         Search::Open(Why::Depth) => !enough,
         Search::Open(Why::Ambiguous) => false,
+    }
+}
+
+/// Whether what is recorded is left after a rule was tried: the goal follows by it, and that is enough.
+pub(crate) fn is_left<X>(told: &Verdict<X>, enough: bool) -> bool
+    ensures { result ≡ leaves enough told.now }
+{
+    match told {
+        Verdict::Proven => enough,
+        Verdict::Refuted(_) => false,
+        Verdict::Untold(_) => false,
     }
 }
 
@@ -161,6 +169,7 @@ pub(crate) fn settle<C: KeepsRecord>(
             ctx.put_back(record);
             Told::Yes(by)
         }
+        Search::Stays(by) => Told::Yes(by),
         Search::Open(why) => Told::Maybe(why),
     }
 }

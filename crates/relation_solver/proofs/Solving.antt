@@ -15,7 +15,8 @@ use Rattle.relation_semantics.proofs.StoreCalls.{bindings_are_met}
 use Rattle.relation_semantics.proofs.Trees.{apply_ground}
 use Rattle.relation_solver.specs.Rules.{AreClosed, Rule, IsShadowed, one, all, Follows, by_rule, none_left, and_next}
 use Rattle.relation_solver.specs.Traces.{Without, first, later, Step, goal, goals, rule, rest, Answer, yes, no, Opens}
-use Rattle.relation_solver.specs.Traces.{GivesWay, Takes, Did, took_alone, took_first, did_none, did_next}
+use Rattle.relation_solver.specs.Traces.{GivesWay, Takes, Did, took_alone, took_first, was_found, read_yes, read_no}
+use Rattle.relation_solver.specs.Traces.{did_none, did_next}
 use Rattle.relation_solver.specs.Traces.{no_rule, same_rule, other_rule, no_form, no_fit, no_stand, no_asks, no_first}
 use Rattle.relation_solver.specs.Traces.{no_later}
 use Rattle.relation_solver.specs.Solving.{YesIsSound, YesIsPrincipal, NoMeansNone, AllYesAreSound, AllYesArePrincipal}
@@ -82,6 +83,10 @@ module _ (u : ℕ) (held : List Tree) (rules : List Rule) where
     sound : {st : Store} {q : Step} {a : Answer} → Did u held rules st q a → Sound st q a
     sound (took_alone before middle after r vars g c t d only) = taken_sound before middle after r vars g c t (sound d)
     sound (took_first before middle after r vars g c t d i w) = taken_sound before middle after r vars g c t (sound d)
+    sound (was_found st g f) = λ s h. (h, f s h)
+    sound (read_yes before after g h r d) = λ s k.
+        let p = sound d s k in (p.0, follows_one (apply s g) (r.same s p.0) p.1)
+    sound (read_no st g h r d) = tt
     sound (did_none st) = λ s h. (h, none_left)
     sound (did_next before middle after g gs hs w d l e) = λ s h.
         let p = sound e s h in
@@ -193,6 +198,11 @@ module _ (u : ℕ) (held : List Tree) (rules : List Rule) where
         taken_extends before middle after r vars g t d (extends d)
     extends (took_first before middle after r vars g c t d i w) =
         taken_extends before middle after r vars g t d (extends d)
+    extends (was_found st g f) = λ i s s' h h' e. (s, (λ k n m. refl), h)
+    extends (read_yes before after g h r d) = λ i s s' k k' e.
+        let p = sound d s' k' in
+        extends d r.is_in s s' k k' (r.same s k ∙ (e ∙ sym (r.same s' p.0)))
+    extends (read_no st g h r d) = tt
     extends (did_none st) = λ i s s' h h' e. (s, (λ k n m. refl), h)
     extends (did_next before middle after g gs hs w d l e) = λ i s s' h h' a.
         let p = sound e s' h' in
@@ -268,6 +278,9 @@ module _ (u : ℕ) (held : List Tree) (rules : List Rule) where
         let h' : IsErasedSolution after s' = (all_met.1, λ k n t e. ap erase (all_met.2 k n t e)) in
         let back = taken_sound before middle after r vars g c t (sound d) s' h' in
         taken_extends before middle after r vars g t d (extends d) i s s' h h' (same s s' h back.0)
+    whole (was_found st g f) = λ i s h w. (s, (λ k n m. refl), h)
+    whole (read_yes before after g h r d) = λ i s k w. whole d r.is_in s k (follows_one (apply s h) (sym (r.same s k)) w)
+    whole (read_no st g h r d) = λ i s k w. whole d r.is_in s k (follows_one (apply s h) (sym (r.same s k)) w)
     whole (did_none st) = λ i s h w. (s, (λ k n m. refl), h)
     whole (did_next before middle after g gs hs a d l e) = λ i s h w.
         let images = images_without (apply s) a in

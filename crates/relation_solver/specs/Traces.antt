@@ -6,12 +6,14 @@
 --   GivesWay held st r xs       whatever an opened rule gives way to the environment has, under each solution of st
 --   StandsFirst held st r xs    or has it under none
 --   HasOneValue st g            a goal comes to one under all solutions of st
+--   IsReadOf st g h             h is what g is read as in st
 --   Did u held rules st q a     a solver that was asked q in the record st answered a, by these calls and no others
 --   FollowsBy u held rules st st' r g   a goal followed by a rule: st' is recorded then
 --   MakesMeet c st gs e a b     what satisfies st, and makes the goals gs true, makes two clauses say one thing
 --   Proves c e u held rules gs st q st'   a solver that was asked q in st said yes: st' is recorded then, and the goals
 --                                         gs are left
---   ProvesBy c e u held rules gs st st' r g   the same of a goal, of which it said yes by this rule
+--   OpensBy c e u held rules gs st st' r g   the same of a goal, of which it said yes by opening this rule
+--   ProvesBy c e u held rules gs st st' r g  or what it had found before
 use Rattle.std.specs.Prelude.{◌≡◌, ℕ, ◌≤◌, List, [], ◌∷◌, All, Contains, map}
 use Rattle.relation_terms.specs.Trees.{Tree, Assign, apply, inst, Leaves}
 use Rattle.relation_terms.specs.Erasure.{erase}
@@ -21,7 +23,7 @@ use Rattle.relation_semantics.specs.Goals.{Goal, Holds}
 use Rattle.relation_semantics.specs.FirstOrder.{IsErasedSolution, Unifies}
 use Rattle.relation_semantics.specs.Steps.{AllNamable, MakesVariables, IsLater}
 use Rattle.relation_semantics.specs.Outcomes.{Exact, NoUnifier}
-use Rattle.relation_solver.specs.Rules.{AreClosed, Rule, Asked, one, all, Meets}
+use Rattle.relation_solver.specs.Rules.{AreClosed, Rule, Asked, one, all, Follows, Meets, Derives, DerivesBy}
 
 -- A list without one of its elements.
 pub data Without {T : Type 0} (x : T) : List T → List T → Type 0 where
@@ -70,6 +72,11 @@ abbrev pub HasOneValue : Store → Tree → Type 0
 HasOneValue st g = (s s' : Assign) → IsErasedSolution st s → IsErasedSolution st s' →
     erase (apply s g) ≡ erase (apply s' g)
 
+-- A goal as it is read by what is recorded: all solutions make one of both, up to erasure.
+pub record IsReadOf (st : Store) (g read : Tree) : Type 0 where
+  pub is_in : InContext st read
+  pub same : (s : Assign) → IsErasedSolution st s → Unifies s read g
+
 -- A rule was opened, what it gives was related with a goal, exactly, and it doesn't give way.
 pub record Takes (u : ℕ) (held : List Tree) (before after : Store) (r : Rule) (vars : List Tree) (g : Tree) :
     Type 0 where
@@ -89,6 +96,15 @@ pub data Did (u : ℕ) (held : List Tree) (rules : List Rule) : Store → Step �
   took_first : (before middle after : Store) (r : Rule) (vars : List Tree) (g : Tree) → Contains rules r →
       Takes u held before middle r vars g → Did u held rules middle (goals (map (inst vars 0) r.asks)) (yes after) →
       IsSound after → HasOneValue before g → Did u held rules before (goal g) (yes after)
+  -- under each solution it was found to follow before
+  was_found : (st : Store) (g : Tree) →
+      ((s : Assign) → IsErasedSolution st s → Follows u held rules (one (apply s g))) →
+      Did u held rules st (goal g) (yes st)
+  -- another goal was asked, which is this one as it is read by what is recorded
+  read_yes : (before after : Store) (g h : Tree) → IsReadOf before g h → Did u held rules before (goal h) (yes after) →
+      Did u held rules before (goal g) (yes after)
+  read_no : (st : Store) (g h : Tree) → IsReadOf st g h → Did u held rules st (goal h) no →
+      Did u held rules st (goal g) no
   did_none : (st : Store) → Did u held rules st (goals []) (yes st)
   did_next : (before middle after : Store) (g : Tree) (gs hs : List Tree) → Without g gs hs →
       Did u held rules before (goal g) (yes middle) → IsLater before middle →
@@ -143,13 +159,16 @@ pub data Proves (c : Items) (e : Tree) (u : ℕ) (held : List Tree) (rules : Lis
       OnlyShrinks opened middle → StandsFirst held middle r vars →
       Proves c e u held rules left middle (all (map (inst vars 0) r.asks)) after →
       Proves c e u held rules left before (one g) after
+  was_proved : (st : Store) (g : Tree) →
+      ((w : Interpretation) (s : Assign) → Satisfies w st s → Derives c w e u held rules (one (apply s g))) →
+      Proves c e u held rules left st (one g) st
   none_asked : (st : Store) → Proves c e u held rules left st (all []) st
   one_of : (before middle after : Store) (g : Tree) (gs hs : List Tree) → Without g gs hs →
       Proves c e u held rules left before (one g) middle → Proves c e u held rules left middle (all hs) after →
       Proves c e u held rules left before (all gs) after
 
 -- It said so of a goal by this rule: the rule was opened and related, and it said yes to all that the rule asks for.
-pub record ProvesBy (c : Items) (e : Tree) (u : ℕ) (held : List Tree) (rules : List Rule) (left : List Goal)
+pub record OpensBy (c : Items) (e : Tree) (u : ℕ) (held : List Tree) (rules : List Rule) (left : List Goal)
     (before after : Store) (r : Rule) (g : Tree) : Type 0 where
   pub there : Contains rules r
   pub opened : Store
@@ -162,3 +181,12 @@ pub record ProvesBy (c : Items) (e : Tree) (u : ℕ) (held : List Tree) (rules :
   pub shrinks : OnlyShrinks opened middle
   pub stands : StandsFirst held middle r vars
   pub asks : Proves c e u held rules left middle (all (map (inst vars 0) r.asks)) after
+
+-- Or it had found before that what satisfies the record makes the goal derived by this rule.
+pub data ProvesBy (c : Items) (e : Tree) (u : ℕ) (held : List Tree) (rules : List Rule) (left : List Goal)
+    (before : Store) : Store → Rule → Tree → Type 0 where
+  by_opening : (after : Store) (r : Rule) (g : Tree) → OpensBy c e u held rules left before after r g →
+      ProvesBy c e u held rules left before after r g
+  was_by : (r : Rule) (g : Tree) →
+      ((w : Interpretation) (s : Assign) → Satisfies w before s → DerivesBy c w e u held rules r (apply s g)) →
+      ProvesBy c e u held rules left before before r g

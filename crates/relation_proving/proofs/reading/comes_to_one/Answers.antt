@@ -1,11 +1,11 @@
 -- By what stands in the goal, or in what it comes to.
-use Rattle.std.proofs.Common.{◌≡◌, ap, refl, sym, subst, ◌∙◌, not, IsTrue}
+use Rattle.std.proofs.Common.{◌≡◌, ap, sym, subst, not, IsTrue}
 use Rattle.relation_terms.specs.Trees.{known}
 use Rattle.relation_folds.specs.Visits.{non_region_infer_stands}
+use Rattle.relation_proving.specs.Telling.{IsBack}
 use Rattle.relation_proving.proofs.GoingOn.{back_itself}
-use Rattle.relation_proving.proofs.OneValue.{is_one, comes_to_one}
-use Rattle.relation_semantics.specs.FirstOrder.{Unifies}
-use Rattle.relation_semantics.proofs.StoreCalls.{resolved_unifies}
+use Rattle.relation_proving.proofs.OneValue.{is_one}
+use Rattle.relation_proving.proofs.ReadGoals.{read_itself, read_resolved}
 use Rattle.relation_proving.proofs.reading.comes_to_one.Goals as goal
 
 pub has_non_region_infer-requires : goal.has_non_region_infer-requires
@@ -15,11 +15,11 @@ has_non_region_infer-requires g c =
 pub returns-then-not-has_non_region_infer : goal.returns-then-not-has_non_region_infer
 returns-then-not-has_non_region_infer g c =
     let s = g.C.InferCtxtLike.state c.args.ctx.now in
+    let back = back_itself s c.requires.lawful in
     record {
-      back = back_itself s c.requires.lawful;
+      back = back;
       one = record {
-        is_known = c.requires.goal.is_known;
-        same = λ z h. refl;
+        is_read = read_itself s s back c.args.goal.now c.requires.goal;
         one = is_one s.store ((s.meaning).clause c.args.goal.now) c.has_non_region_infer.result c.requires.goal.is_in
             (subst (λ m. c.has_non_region_infer.result ≡ non_region_infer_stands (m.clause c.args.goal.now)) c.cx.ensures
             c.has_non_region_infer.ensures) (ap not c.if-not-has_non_region_infer.true);
@@ -67,26 +67,28 @@ returns-then-has_non_region_infer g c =
 pub returns : goal.returns
 returns g c =
     let s = g.C.InferCtxtLike.state c.args.ctx.now in
+    let d = g.C.InferCtxtLike.state c.resolve_vars_if_possible.new.self in
     let e = c.in_ok-resolved.ensures in
-    let t = (s.meaning).clause c.args.goal.now in
-    let sound = g.met.C.InferCtxtLike.sound c.args.ctx.now c.requires.lawful in
-    record {
-      back = record {
-        same = record {
-          store = e.same_record;
-          setup = e.grows.setup;
-          outliving = e.grows.outliving;
-          marks = e.marks;
-        };
-        lawful = e.grows.lawful;
-        grown = e.grows.extends;
+    let back : IsBack s d = record {
+      same = record {
+        store = e.same_record;
+        setup = e.grows.setup;
+        outliving = e.grows.outliving;
+        marks = e.marks;
       };
+      lawful = e.grows.lawful;
+      grown = e.grows.extends;
+    } in
+    let read = read_resolved s d (g.met.C.InferCtxtLike.sound c.args.ctx.now c.requires.lawful)
+    (g.met.C.InferCtxtLike.bound_by_lists c.args.ctx.now c.requires.lawful) back c.args.goal.now
+    c.in_ok-resolved.resolved c.requires.goal e.comes.0 e.comes.1 in
+    record {
+      back = back;
       one = record {
-        is_known = e.comes.0;
-        same = λ z h. subst (λ u. Unifies z u t) (sym e.comes.1) (resolved_unifies s.store sound z h.1 t);
-        one = comes_to_one s.store sound t c.has_non_region_infer-2.result c.requires.goal.is_in
+        is_read = read;
+        one = is_one d.store ((d.meaning).clause c.in_ok-resolved.resolved) c.has_non_region_infer-2.result
+            read.may_ask.is_in
             (subst (λ m. c.has_non_region_infer-2.result ≡ non_region_infer_stands (m.clause c.in_ok-resolved.resolved))
-            c.cx-2.ensures c.has_non_region_infer-2.ensures ∙ ap non_region_infer_stands e.comes.1)
-            (ap not c.if-has_non_region_infer.false);
+            c.cx-2.ensures c.has_non_region_infer-2.ensures) (ap not c.if-has_non_region_infer.false);
       };
     }
