@@ -173,10 +173,14 @@ def is_open(text, bound, seen=()):
     return any(it in seen or it not in bound or is_open(bound[it], bound, (*seen, it)) for it in re.findall(r"\?\d+", text))
 
 
-def overflows(impl):
-    """Says whether an impl for all types asks for itself at a larger one: rustc refuses it, whatever is asked."""
-    (trait, ty, *_), asks = impl
-    return isinstance(ty, int) and any(ask[:2] == (trait, ("Row", ty)) for ask in asks)
+def overflows(impls):
+    """Says whether impls for all types lead from a trait to itself at a larger type: rustc refuses such an impl, whatever
+    is asked."""
+    blanket = [(head[0], head[1], asks) for head, asks in impls if isinstance(head[1], int)]
+    leads = {(it, ask[0], ask[1] != ty) for it, ty, asks in blanket for ask in asks if ask[1] in (ty, ("Row", ty))}
+    while more := {(it, to, up or on) for it, by, up in leads for of, to, on in leads if by == of} - leads:
+        leads |= more
+    return any(it == to and up for it, to, up in leads)
 
 
 def are_several(case):
@@ -199,7 +203,7 @@ def expected(case, answers):
         verdict, by = AMBIGUOUS, (*by, KNOWN)
     if verdict == DEEP and are_several(case):
         return kinds.Expected(verdict + OR_AMBIGUOUS, (*by, SEVERAL))
-    if verdict in (YES, NO, AMBIGUOUS) and any(map(overflows, case.more[0])):
+    if verdict in (YES, NO, AMBIGUOUS) and overflows(case.more[0]):
         return kinds.Expected(verdict + OR_DEEP, (*by, kinds.OVERFLOW))
     return kinds.Expected(verdict, by)
 
