@@ -70,22 +70,6 @@ fn const_with_parts<I: Interner>(
     }
 }
 
-// The term of that one's form over these parts, that one being related by its parts.
-fn term_with_parts<I: Interner>(
-    cx: &mut I,
-    term: &PartOf<I>,
-    parts: &[PartOf<I>],
-) -> Result<PartOf<I>, OutOfMemory>
-    requires term_known { IsTrue (known (part_tree (I.meaning cx.old) term.now)) }
-    requires form { IsByParts (part_tree (I.meaning cx.old) term.now) }
-    requires parts_known { IsTrue (known (list_tree (part_tree (I.meaning cx.old)) parts.now)) }
-    requires fits { Fit parts.now (direct_parts (part_tree (I.meaning cx.old) term.now)) }
-    ensures made { MakesPartOver (I.meaning cx.old) (I.meaning cx.new) term.now parts.now result }
-    ensures sort { IfOk result (λ p. part_sort p ≡ part_sort term.now) }
-{
-    with_parts(cx, term, parts)
-}
-
 // The same through a relation: nothing of it changes but what its interner knows.
 pub(crate) fn make_ty<I: Interner, R: TypeRelation<I>>(
     r: &mut R,
@@ -141,6 +125,6 @@ pub(crate) fn make_part<I: Interner, R: TypeRelation<I>>(
     ensures sort { IfOk result (λ p. part_sort p ≡ part_sort term.now) }
 {
     r.lemma_interner_grows();
-    let made = term_with_parts(r.cx_mut(), term, parts)?;
+    let made = with_parts(r.cx_mut(), term, parts)?;
     Ok(made)
 }
