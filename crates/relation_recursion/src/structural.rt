@@ -24,7 +24,7 @@ use crate::reading::{
     compare_consts_of, compare_members_of, compare_parts_of, const_part_of, const_parts_count_of,
     is_error_const_of, named_place_of, note_args, part_of, term_part_of, term_parts_count_of,
 };
-use crate::starting::start_of;
+use crate::starting::{Start, start_of};
 use part_variances::variances::{const_variance_at, is_skipped, term_variance_at, variance_at};
 use relation_folds::error::{RelateFault, RelateResult, TypeError};
 use relation_semantics::relate::Step;
@@ -221,19 +221,14 @@ pub fn structurally_relate_tys<I: Interner, R: TypeRelation<I>>(
     ensures asks { TysAskOpen R.manner (R.state r.old) (R.state r.new) a.now b.now result }
 {
     let start = start_of::<I, R>(r, a, b)?;
-    let is_left = start.left_error;
-    if is_left {
-        return Ok(*a);
-    }
-    let is_right = start.right_error;
-    if is_right {
-        return Ok(*b);
-    }
-    let in_order = start.in_order;
-    if in_order {
-        return Ok(expect_ty(&relate_in_order(r, &Part::Ty(*a), &Part::Ty(*b))?));
-    }
-    let n = start.count;
+    let n = match start {
+        Start::Left => return Ok(*a),
+        Start::Right => return Ok(*b),
+        Start::InOrder => {
+            return Ok(expect_ty(&relate_in_order(r, &Part::Ty(*a), &Part::Ty(*b))?));
+        }
+        Start::Over(count) => count,
+    };
     let mut answers = no_answers::<I, R, GenericArg<I>>(r);
     for i in 0..n {
         let x = part_of::<I, R>(r, a, i);

@@ -59,6 +59,7 @@ use Rattle.relation_recursion.proofs.Looping.{failed_ty, failed_const, kept_ty, 
 use Rattle.relation_recursion.proofs.Kept.{kept_answers, kept_fit, kept_fit_parts, some_kept, none_kept_yet}
 use Rattle.relation_recursion.proofs.Kept.{kept_in, failed_in, answer_known}
 use Rattle.relation_recursion.specs.Keeping.{KeepsAnswer}
+use Rattle.relation_recursion.specs.Starting.{Starts}
 use Rattle.relation_recursion.proofs.Looping.{failed_part, kept_part}
 use Rattle.relation_steps.specs.Alone.{RelatesAtOnce, StepsAtOnce}
 use Rattle.relation_recursion.proofs.Alone.{formed_ask_none, left_none, right_none, lifetime_none, const_none, no_ty_none, refused_told}
@@ -1215,8 +1216,8 @@ structurally_relate_consts-returns g t c =
     (ap₂ const_over same_a (ap (list_tree (arg_tree q.meaning)) c.as_slice.ensures.value)) (made.made).sure
     (made.made).means
 
-pub structurally_relate_tys-returns-then-is_left-clause-related : goal.structurally_relate_tys-returns-then-is_left-clause-related
-structurally_relate_tys-returns-then-is_left-clause-related g t c =
+pub structurally_relate_tys-returns-in-Left-clause-related : goal.structurally_relate_tys-returns-in-Left-clause-related
+structurally_relate_tys-returns-in-Left-clause-related g t c =
     let r = g.R.HasState.state c.args.r.now in
     let a = (r.meaning).ty c.args.a.now in
     let b = (r.meaning).ty c.args.b.now in
@@ -1226,10 +1227,10 @@ structurally_relate_tys-returns-then-is_left-clause-related g t c =
     let k = c.requires.asked in
     left_error g.R.TypeRelation.manner r r.ambient (r.meaning).ty type_sort a b c.args.a.now refl k.left_in k.right_in
     (sorted.ty c.args.a.now k.left_known) (sorted.ty c.args.b.now k.right_known) refl k.left_known
-    ((c.in_ok-start.ensures.starts).left_error c.if-is_left.true)
+    (subst (Starts (g.R.HasState.state c.args.r.now).meaning c.args.a.now c.args.b.now) c.in-Left.is c.in_ok-start.ensures.starts)
 
-pub structurally_relate_tys-returns-then-is_right-clause-related : goal.structurally_relate_tys-returns-then-is_right-clause-related
-structurally_relate_tys-returns-then-is_right-clause-related g t c =
+pub structurally_relate_tys-returns-in-Right-clause-related : goal.structurally_relate_tys-returns-in-Right-clause-related
+structurally_relate_tys-returns-in-Right-clause-related g t c =
     let r = g.R.HasState.state c.args.r.now in
     let a = (r.meaning).ty c.args.a.now in
     let b = (r.meaning).ty c.args.b.now in
@@ -1239,7 +1240,7 @@ structurally_relate_tys-returns-then-is_right-clause-related g t c =
     let k = c.requires.asked in
     right_error g.R.TypeRelation.manner r r.ambient (r.meaning).ty type_sort a b c.args.b.now refl k.left_in k.right_in
     (sorted.ty c.args.a.now k.left_known) (sorted.ty c.args.b.now k.right_known) refl k.right_known
-    ((c.in_ok-start.ensures.starts).right_error c.if-is_right.true)
+    (subst (Starts (g.R.HasState.state c.args.r.now).meaning c.args.a.now c.args.b.now) c.in-Right.is c.in_ok-start.ensures.starts)
 
 pub structurally_relate_tys-returns-in_err-start-clause-related : goal.structurally_relate_tys-returns-in_err-start-clause-related
 structurally_relate_tys-returns-in_err-start-clause-related g t c =
@@ -1268,12 +1269,12 @@ structurally_relate_tys-loop-i-init g t c =
     let cx = g.R.TypeRelation.interner c.args.r.now in
     let sorted : Sorted r.meaning = subst (λ m. Sorted m) (sym e) (g.met.I.Interner.sorted cx) in
     let k = c.requires.asked in
-    let alike = (c.in_ok-start.ensures.starts).alike c.if-is_left.false c.if-is_right.false in
+    let alike = (subst (Starts (g.R.HasState.state c.args.r.now).meaning c.args.a.now c.args.b.now) c.in-Over.is c.in_ok-start.ensures.starts).alike in
     record {
       lawful = c.requires.lawful;
       fronted = fronted_none g.R.TypeRelation.manner r (head_of a) r.ambient (direct_parts a) (direct_parts b);
-      left_count = ((c.in_ok-start.ensures.starts).counted c.if-is_left.false c.if-is_right.false);
-      right_count = ((c.in_ok-start.ensures.starts).counted c.if-is_left.false c.if-is_right.false) ∙ parts_counted a b alike;
+      left_count = (subst (Starts (g.R.HasState.state c.args.r.now).meaning c.args.a.now c.args.b.now) c.in-Over.is c.in_ok-start.ensures.starts).counted;
+      right_count = (subst (Starts (g.R.HasState.state c.args.r.now).meaning c.args.a.now c.args.b.now) c.in-Over.is c.in_ok-start.ensures.starts).counted ∙ parts_counted a b alike;
       are_parts = record {
         left_list = parts_of_list type_sort a (sorted.ty c.args.a.now k.left_known);
         right_list = parts_of_list type_sort b (sorted.ty c.args.b.now k.right_known);
@@ -1300,7 +1301,7 @@ structurally_relate_tys-relate_with_variance-related-requires g t c κs within =
     let extends = ((inv.fronted).passes).extends in
     let same_a : (q.meaning).ty c.args.a.now ≡ a = extends.ty c.args.a.now k.left_known in
     let same_b : (q.meaning).ty c.args.b.now ≡ b = extends.ty c.args.b.now k.right_known in
-    let alike = (c.in_ok-start.ensures.starts).alike c.if-is_left.false c.if-is_right.false in
+    let alike = (subst (Starts (g.R.HasState.state c.args.r.now).meaning c.args.a.now c.args.b.now) c.in-Over.is c.in_ok-start.ensures.starts).alike in
     let test = c.loop-i-test.true in
     let lx : i < count (direct_parts a) = omega (arith, test, inv.left_count) in
     let ly : i < count (direct_parts b) = omega (arith, test, inv.right_count) in
@@ -1337,7 +1338,7 @@ structurally_relate_tys-returns-in_err-keep_answer-clause-related g t c =
     let extends = ((inv.fronted).passes).extends in
     let same_a : (q.meaning).ty c.args.a.now ≡ a = extends.ty c.args.a.now k.left_known in
     let same_b : (q.meaning).ty c.args.b.now ≡ b = extends.ty c.args.b.now k.right_known in
-    let alike = (c.in_ok-start.ensures.starts).alike c.if-is_left.false c.if-is_right.false in
+    let alike = (subst (Starts (g.R.HasState.state c.args.r.now).meaning c.args.a.now c.args.b.now) c.in-Over.is c.in_ok-start.ensures.starts).alike in
     let test = c.loop-i-test.true in
     let lx : i < count (direct_parts a) = omega (arith, test, inv.left_count) in
     let ly : i < count (direct_parts b) = omega (arith, test, inv.right_count) in
@@ -1399,7 +1400,7 @@ structurally_relate_tys-loop-i-preserved g t c =
     let extends = ((inv.fronted).passes).extends in
     let same_a : (q.meaning).ty c.args.a.now ≡ a = extends.ty c.args.a.now k.left_known in
     let same_b : (q.meaning).ty c.args.b.now ≡ b = extends.ty c.args.b.now k.right_known in
-    let alike = (c.in_ok-start.ensures.starts).alike c.if-is_left.false c.if-is_right.false in
+    let alike = (subst (Starts (g.R.HasState.state c.args.r.now).meaning c.args.a.now c.args.b.now) c.in-Over.is c.in_ok-start.ensures.starts).alike in
     let test = c.loop-i-test.true in
     let lx : i < count (direct_parts a) = omega (arith, test, inv.left_count) in
     let ly : i < count (direct_parts b) = omega (arith, test, inv.right_count) in
@@ -1468,7 +1469,7 @@ structurally_relate_tys-keep_answer-requires g t c =
     let within : c.loop-i.i ≤ count (direct_parts a) = omega (arith, test, inv.left_count) in
     record {
       sure = subst (λ z. IsTrue (known z)) (sym then) k.left_known;
-      over_args = λ o. absurd (false≢true (sym c.if-in_order.false ∙ ((c.in_ok-start.ensures.starts).by_parts c.if-is_left.false c.if-is_right.false).1 (subst IsByParts then o)));
+      over_args = λ o. (subst (Starts (g.R.HasState.state c.args.r.now).meaning c.args.a.now c.args.b.now) c.in-Over.is c.in_ok-start.ensures.starts).over_args (subst IsByParts then o);
       within = subst (λ z. c.loop-i.i ≤ count (direct_parts z)) (sym then) within;
     }
 
@@ -1485,7 +1486,7 @@ structurally_relate_tys-note_args-requires-clause-one_form g t c =
     let extends = ((inv.fronted).passes).extends in
     let same_a : (q.meaning).ty c.args.a.now ≡ a = extends.ty c.args.a.now k.left_known in
     let same_b : (q.meaning).ty c.args.b.now ≡ b = extends.ty c.args.b.now k.right_known in
-    let alike = (c.in_ok-start.ensures.starts).alike c.if-is_left.false c.if-is_right.false in
+    let alike = (subst (Starts (g.R.HasState.state c.args.r.now).meaning c.args.a.now c.args.b.now) c.in-Over.is c.in_ok-start.ensures.starts).alike in
     subst₂ AreOfOneForm (sym same_a) (sym same_b) alike
 
 pub structurally_relate_tys-note_args-requires-clause-related : goal.structurally_relate_tys-note_args-requires-clause-related
@@ -1501,7 +1502,7 @@ structurally_relate_tys-note_args-requires-clause-related g t c =
     let extends = ((inv.fronted).passes).extends in
     let same_a : (q.meaning).ty c.args.a.now ≡ a = extends.ty c.args.a.now k.left_known in
     let same_b : (q.meaning).ty c.args.b.now ≡ b = extends.ty c.args.b.now k.right_known in
-    let alike = (c.in_ok-start.ensures.starts).alike c.if-is_left.false c.if-is_right.false in
+    let alike = (subst (Starts (g.R.HasState.state c.args.r.now).meaning c.args.a.now c.args.b.now) c.in-Over.is c.in_ok-start.ensures.starts).alike in
     let test = c.loop-i-test.false in
     let end = (c.loop-i.auto).i-end in
     let left : i ≡ count (direct_parts a) = omega (arith, test, end, inv.left_count) in
@@ -1526,7 +1527,7 @@ structurally_relate_tys-note_args-requires-clause-asked g t c =
     let extends = ((inv.fronted).passes).extends in
     let same_a : (q.meaning).ty c.args.a.now ≡ a = extends.ty c.args.a.now k.left_known in
     let same_b : (q.meaning).ty c.args.b.now ≡ b = extends.ty c.args.b.now k.right_known in
-    let alike = (c.in_ok-start.ensures.starts).alike c.if-is_left.false c.if-is_right.false in
+    let alike = (subst (Starts (g.R.HasState.state c.args.r.now).meaning c.args.a.now c.args.b.now) c.in-Over.is c.in_ok-start.ensures.starts).alike in
     subst₂ (λ t u. Asked M q q.ambient t u) (sym same_a) (sym same_b)
     (subst (λ v. Asked M q v a b) (sym ((inv.fronted).passes).ambient) (asked_later M r.ambient a b (inv.fronted).passes k))
 
@@ -1543,7 +1544,7 @@ structurally_relate_tys-returns-in_err-note_args-clause-related g t c =
     let extends = ((inv.fronted).passes).extends in
     let same_a : (q.meaning).ty c.args.a.now ≡ a = extends.ty c.args.a.now k.left_known in
     let same_b : (q.meaning).ty c.args.b.now ≡ b = extends.ty c.args.b.now k.right_known in
-    let alike = (c.in_ok-start.ensures.starts).alike c.if-is_left.false c.if-is_right.false in
+    let alike = (subst (Starts (g.R.HasState.state c.args.r.now).meaning c.args.a.now c.args.b.now) c.in-Over.is c.in_ok-start.ensures.starts).alike in
     let test = c.loop-i-test.false in
     let end = (c.loop-i.auto).i-end in
     let left : i ≡ count (direct_parts a) = omega (arith, test, end, inv.left_count) in
@@ -1573,7 +1574,7 @@ structurally_relate_tys-returns-then-is_empty-clause-related g t c =
     let extends = ((inv.fronted).passes).extends in
     let same_a : (q.meaning).ty c.args.a.now ≡ a = extends.ty c.args.a.now k.left_known in
     let same_b : (q.meaning).ty c.args.b.now ≡ b = extends.ty c.args.b.now k.right_known in
-    let alike = (c.in_ok-start.ensures.starts).alike c.if-is_left.false c.if-is_right.false in
+    let alike = (subst (Starts (g.R.HasState.state c.args.r.now).meaning c.args.a.now c.args.b.now) c.in-Over.is c.in_ok-start.ensures.starts).alike in
     let test = c.loop-i-test.false in
     let end = (c.loop-i.auto).i-end in
     let left : i ≡ count (direct_parts a) = omega (arith, test, end, inv.left_count) in
@@ -1604,7 +1605,7 @@ structurally_relate_tys-make_ty-requires-clause-ty_known g t c =
     let extends = ((inv.fronted).passes).extends in
     let same_a : (q.meaning).ty c.args.a.now ≡ a = extends.ty c.args.a.now k.left_known in
     let same_b : (q.meaning).ty c.args.b.now ≡ b = extends.ty c.args.b.now k.right_known in
-    let alike = (c.in_ok-start.ensures.starts).alike c.if-is_left.false c.if-is_right.false in
+    let alike = (subst (Starts (g.R.HasState.state c.args.r.now).meaning c.args.a.now c.args.b.now) c.in-Over.is c.in_ok-start.ensures.starts).alike in
     let test = c.loop-i-test.false in
     let end = (c.loop-i.auto).i-end in
     let left : i ≡ count (direct_parts a) = omega (arith, test, end, inv.left_count) in
@@ -1642,7 +1643,7 @@ structurally_relate_tys-make_ty-requires-clause-parts_known g t c =
     let extends = ((inv.fronted).passes).extends in
     let same_a : (q.meaning).ty c.args.a.now ≡ a = extends.ty c.args.a.now k.left_known in
     let same_b : (q.meaning).ty c.args.b.now ≡ b = extends.ty c.args.b.now k.right_known in
-    let alike = (c.in_ok-start.ensures.starts).alike c.if-is_left.false c.if-is_right.false in
+    let alike = (subst (Starts (g.R.HasState.state c.args.r.now).meaning c.args.a.now c.args.b.now) c.in-Over.is c.in_ok-start.ensures.starts).alike in
     let test = c.loop-i-test.false in
     let end = (c.loop-i.auto).i-end in
     let left : i ≡ count (direct_parts a) = omega (arith, test, end, inv.left_count) in
@@ -1681,7 +1682,7 @@ structurally_relate_tys-make_ty-requires-clause-fits g t c =
     let extends = ((inv.fronted).passes).extends in
     let same_a : (q.meaning).ty c.args.a.now ≡ a = extends.ty c.args.a.now k.left_known in
     let same_b : (q.meaning).ty c.args.b.now ≡ b = extends.ty c.args.b.now k.right_known in
-    let alike = (c.in_ok-start.ensures.starts).alike c.if-is_left.false c.if-is_right.false in
+    let alike = (subst (Starts (g.R.HasState.state c.args.r.now).meaning c.args.a.now c.args.b.now) c.in-Over.is c.in_ok-start.ensures.starts).alike in
     let test = c.loop-i-test.false in
     let end = (c.loop-i.auto).i-end in
     let left : i ≡ count (direct_parts a) = omega (arith, test, end, inv.left_count) in
@@ -1720,7 +1721,7 @@ structurally_relate_tys-returns-clause-related g t c =
     let extends = ((inv.fronted).passes).extends in
     let same_a : (q.meaning).ty c.args.a.now ≡ a = extends.ty c.args.a.now k.left_known in
     let same_b : (q.meaning).ty c.args.b.now ≡ b = extends.ty c.args.b.now k.right_known in
-    let alike = (c.in_ok-start.ensures.starts).alike c.if-is_left.false c.if-is_right.false in
+    let alike = (subst (Starts (g.R.HasState.state c.args.r.now).meaning c.args.a.now c.args.b.now) c.in-Over.is c.in_ok-start.ensures.starts).alike in
     let test = c.loop-i-test.false in
     let end = (c.loop-i.auto).i-end in
     let left : i ≡ count (direct_parts a) = omega (arith, test, end, inv.left_count) in
@@ -1752,13 +1753,13 @@ structurally_relate_tys-returns-clause-related g t c =
     (ap₂ form_over stays (ap (list_tree (arg_tree u.meaning)) c.as_slice.ensures.value ∙ listed)) (made.made).sure
     (made.made).means
 
-pub structurally_relate_tys-returns-then-is_left-clause-asks : goal.structurally_relate_tys-returns-then-is_left-clause-asks
-structurally_relate_tys-returns-then-is_left-clause-asks g t c = λ promised directed d ts us over opens.
-    absurd (error_not_over over (inl ((c.in_ok-start.ensures.starts).left_error c.if-is_left.true)))
+pub structurally_relate_tys-returns-in-Left-clause-asks : goal.structurally_relate_tys-returns-in-Left-clause-asks
+structurally_relate_tys-returns-in-Left-clause-asks g t c = λ promised directed d ts us over opens.
+    absurd (error_not_over over (inl (subst (Starts (g.R.HasState.state c.args.r.now).meaning c.args.a.now c.args.b.now) c.in-Left.is c.in_ok-start.ensures.starts)))
 
-pub structurally_relate_tys-returns-then-is_right-clause-asks : goal.structurally_relate_tys-returns-then-is_right-clause-asks
-structurally_relate_tys-returns-then-is_right-clause-asks g t c = λ promised directed d ts us over opens.
-    absurd (error_not_over over (inr ((c.in_ok-start.ensures.starts).right_error c.if-is_right.true)))
+pub structurally_relate_tys-returns-in-Right-clause-asks : goal.structurally_relate_tys-returns-in-Right-clause-asks
+structurally_relate_tys-returns-in-Right-clause-asks g t c = λ promised directed d ts us over opens.
+    absurd (error_not_over over (inr (subst (Starts (g.R.HasState.state c.args.r.now).meaning c.args.a.now c.args.b.now) c.in-Right.is c.in_ok-start.ensures.starts)))
 
 pub structurally_relate_tys-returns-in_err-start-clause-asks : goal.structurally_relate_tys-returns-in_err-start-clause-asks
 structurally_relate_tys-returns-in_err-start-clause-asks g t c =
@@ -1809,9 +1810,9 @@ structurally_relate_tys-returns-clause-asks g t c =
     k.right_known (made.grown).store [] ((made.grown).goals ∙ sym (append-nil u.goals)) promised
     c.in_ok-note_args.ensures.asks)
 
-pub structurally_relate_tys-returns-then-in_order-clause-asks : goal.structurally_relate_tys-returns-then-in_order-clause-asks
-structurally_relate_tys-returns-then-in_order-clause-asks g t c = λ promised directed d ts us over opens.
-    absurd (by_parts_not_over over (((c.in_ok-start.ensures.starts).by_parts c.if-is_left.false c.if-is_right.false).0 c.if-in_order.true))
+pub structurally_relate_tys-returns-in-InOrder-clause-asks : goal.structurally_relate_tys-returns-in-InOrder-clause-asks
+structurally_relate_tys-returns-in-InOrder-clause-asks g t c = λ promised directed d ts us over opens.
+    absurd (by_parts_not_over over (subst (Starts (g.R.HasState.state c.args.r.now).meaning c.args.a.now c.args.b.now) c.in-InOrder.is c.in_ok-start.ensures.starts).by_parts)
 
 pub relate_in_order-loop-i-init : goal.relate_in_order-loop-i-init
 relate_in_order-loop-i-init g t c =
@@ -2864,8 +2865,8 @@ structurally_relate_tys-relate_in_order-requires g t c κs within =
     let lawful = c.requires.lawful in
     let decides = c.requires.decides in
     let asked = c.requires.asked in
-    let form : IsByParts a = ((c.in_ok-start.ensures.starts).by_parts c.if-is_left.false c.if-is_right.false).0 c.if-in_order.true in
-    let alike = (c.in_ok-start.ensures.starts).alike c.if-is_left.false c.if-is_right.false in
+    let form : IsByParts a = (subst (Starts (g.R.HasState.state c.args.r.now).meaning c.args.a.now c.args.b.now) c.in-InOrder.is c.in_ok-start.ensures.starts).by_parts in
+    let alike = (subst (Starts (g.R.HasState.state c.args.r.now).meaning c.args.a.now c.args.b.now) c.in-InOrder.is c.in_ok-start.ensures.starts).alike in
     let under : 8 * depth (r.store).budget (weight r.store a + weight r.store b) <
     8 * depth (r.store).budget (weight r.store a + weight r.store b) + 1 = omega arith in
     let d = c.decreases in (
@@ -2908,8 +2909,8 @@ structurally_relate_tys-returns-in_err-relate_in_order-clause-related g t c =
     subst (λ z. RelatedForms M r q r.ambient a b (q.meaning).ty z) (sym failed)
     (refused_again M r.ambient a b (part_tree q.meaning) (q.meaning).ty n.field-0.0 (n.ensures).related)
 
-pub structurally_relate_tys-returns-then-in_order-clause-related : goal.structurally_relate_tys-returns-then-in_order-clause-related
-structurally_relate_tys-returns-then-in_order-clause-related g t c =
+pub structurally_relate_tys-returns-in-InOrder-clause-related : goal.structurally_relate_tys-returns-in-InOrder-clause-related
+structurally_relate_tys-returns-in-InOrder-clause-related g t c =
     let r = g.R.HasState.state c.args.r.now in
     let M = g.R.TypeRelation.manner in
     let a = (r.meaning).ty c.args.a.now in
@@ -2923,7 +2924,7 @@ pub structurally_relate_tys-part_of-x-requires-clause-over_args : goal.structura
 structurally_relate_tys-part_of-x-requires-clause-over_args g t c =
     let k = c.requires.asked in
     let same = (((c.loop-i.invariant.fronted).passes).extends).ty c.args.a.now k.left_known in
-    λ o. absurd (false≢true (sym c.if-in_order.false ∙ ((c.in_ok-start.ensures.starts).by_parts c.if-is_left.false c.if-is_right.false).1 (subst IsByParts same o)))
+    λ o. (subst (Starts (g.R.HasState.state c.args.r.now).meaning c.args.a.now c.args.b.now) c.in-Over.is c.in_ok-start.ensures.starts).over_args (subst IsByParts same o)
 
 pub structurally_relate_tys-part_of-y-requires-clause-over_args : goal.structurally_relate_tys-part_of-y-requires-clause-over_args
 structurally_relate_tys-part_of-y-requires-clause-over_args g t c =
@@ -2933,9 +2934,8 @@ structurally_relate_tys-part_of-y-requires-clause-over_args g t c =
     let b = (r.meaning).ty c.args.b.now in
     let k = c.requires.asked in
     let same = (((c.loop-i.invariant.fronted).passes).extends).ty c.args.b.now k.right_known in
-    let back = alike_back a b ((c.in_ok-start.ensures.starts).alike c.if-is_left.false c.if-is_right.false) in
-    λ o. absurd (false≢true (sym c.if-in_order.false ∙ ((c.in_ok-start.ensures.starts).by_parts c.if-is_left.false c.if-is_right.false).1
-    (term_alike b a back (subst IsByParts same o))))
+    let back = alike_back a b ((subst (Starts (g.R.HasState.state c.args.r.now).meaning c.args.a.now c.args.b.now) c.in-Over.is c.in_ok-start.ensures.starts).alike) in
+    λ o. (subst (Starts (g.R.HasState.state c.args.r.now).meaning c.args.a.now c.args.b.now) c.in-Over.is c.in_ok-start.ensures.starts).over_args (term_alike b a back (subst IsByParts same o))
 
 pub binders-returns-then-is_same_of : goal.binders-returns-then-is_same_of
 binders-returns-then-is_same_of g t c =
