@@ -16,13 +16,14 @@ ghost use Rattle.relation_recursion.specs.PredicateForms.{predicate_form, form_o
 ghost use Rattle.relation_steps.specs.Terms.{AskedTerms, AskedAt, RelatedTerms, RelatedAt, RelatedTermForms};
 ghost use Rattle.relation_steps.specs.Terms.{TermsRegister};
 
+use crate::comparing::{compare_consts, compare_parts};
 use crate::keeping::{keep_answer, keep_const_answer, keep_term_answer, no_answers};
 use crate::making::{make_const, make_part, make_ty};
-use crate::opening::{is_same_of, open_bodies};
+use crate::opening::open_bodies;
 use crate::parts::{PartKind, kind_of_part};
 use crate::reading::{
-    compare_consts_of, compare_members_of, compare_parts_of, const_part_of, const_parts_count_of,
-    is_error_const_of, named_place_of, note_args, part_of, term_part_of, term_parts_count_of,
+    compare_members_of, const_part_of, const_parts_count_of, is_error_const_of, named_place_of,
+    note_args, part_of, term_part_of, term_parts_count_of,
 };
 use crate::starting::{Start, start_of};
 use part_variances::variances::{const_variance_at, is_skipped, term_variance_at, variance_at};
@@ -30,7 +31,7 @@ use relation_folds::error::{RelateFault, RelateResult, TypeError};
 use relation_semantics::relate::Step;
 use relation_steps::type_relation::TypeRelation;
 use relation_terms::predicate::ExistentialPredicate;
-use relation_terms::terms::parts::{expect_arg, expect_existential, expect_ty, of_arg};
+use relation_terms::terms::parts::{expect_arg, expect_existential, expect_ty, is_same, of_arg};
 use relation_terms::terms::{
     Const, GenericArg, GenericArgKind, Interner, Part, PartOf, Ty, Variance,
 };
@@ -270,7 +271,7 @@ pub fn structurally_relate_consts<I: Interner, R: TypeRelation<I>>(
     if is_error_const_of::<I, R>(r, b) {
         return Ok(*b);
     }
-    compare_consts_of::<I, R>(r, a, b)?;
+    compare_consts(r.cx(), a, b)?;
     let n = const_parts_count_of::<I, R>(r, a);
     let mut answers = no_answers::<I, R, GenericArg<I>>(r);
     for i in 0..n {
@@ -391,7 +392,7 @@ pub(crate) fn relate_parts<I: Interner, R: TypeRelation<I>>(
         }
         PartKind::Binder => binders(r, a, b),
         PartKind::Form => {
-            compare_parts_of::<I, R>(r, a, b)?;
+            compare_parts(r.cx(), a, b)?;
             relate_in_order(r, a, b)
         }
     }
@@ -414,7 +415,7 @@ fn binders<I: Interner, R: TypeRelation<I>>(
     ensures related { RelatedTerms R.manner None part_tree (R.state r.old) (R.state r.new) a.now b.now result }
     ensures sort { IfOk result (λ p. part_sort p ≡ part_sort a.now) }
 {
-    if is_same_of::<I, R>(r, a, b) {
+    if is_same(r.cx(), a, b) {
         return Ok(*a);
     }
     let Some((x, y)) = open_bodies(r, a, b, 0)? else {

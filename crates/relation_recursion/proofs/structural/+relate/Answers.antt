@@ -14,7 +14,7 @@ use Rattle.relation_folds.specs.declared.error.TypeError.TheVariants.{Mismatch}
 use Rattle.relation_folds.specs.declared.error.RelateFault.TheVariants.{Unrelated, Memory}
 use Rattle.relation_semantics.specs.Relation.{part_at}
 use Rattle.relation_semantics.specs.AskedAlone.{AsksNoneAlone}
-use Rattle.relation_semantics.specs.Errors.{AreOfOneForm, IsDeferred, PartError}
+use Rattle.relation_semantics.specs.Errors.{AreOfOneForm, AreOfOneConst, ConstFormError, IsDeferred, PartError}
 use Rattle.relation_semantics.specs.Parts.{IsRigid, IsFormedConst, IsByParts, IsRelatedPart, IsComparedPart, IsArgPart}
 use Rattle.relation_semantics.specs.Parts.{IsBinderPart, ArePaired, direct_parts, const_parts_of, head_of}
 use Rattle.relation_semantics.specs.Parts.{const_head_of}
@@ -60,6 +60,7 @@ use Rattle.relation_recursion.proofs.Kept.{kept_answers, kept_fit, kept_fit_part
 use Rattle.relation_recursion.proofs.Kept.{kept_in, failed_in, answer_known}
 use Rattle.relation_recursion.specs.Keeping.{KeepsAnswer}
 use Rattle.relation_recursion.specs.Starting.{Starts}
+use Rattle.relation_recursion.specs.Comparing.{PartsDiffer}
 use Rattle.relation_recursion.proofs.Looping.{failed_part, kept_part}
 use Rattle.relation_steps.specs.Alone.{RelatesAtOnce, StepsAtOnce}
 use Rattle.relation_recursion.proofs.Alone.{formed_ask_none, left_none, right_none, lifetime_none, const_none, no_ty_none, refused_told}
@@ -895,14 +896,14 @@ structurally_relate_consts-returns-then-is_error_const_of-2 g t c =
     (sorted.const_ c.args.a.now k.left_known) (sorted.const_ c.args.b.now k.right_known) refl k.right_known
     (c.is_error_const_of-2.ensures.0 c.if-is_error_const_of-2.true)
 
-pub structurally_relate_consts-compare_consts_of-requires-clause-no_error : goal.structurally_relate_consts-compare_consts_of-requires-clause-no_error
-structurally_relate_consts-compare_consts_of-requires-clause-no_error g t c = (
+pub structurally_relate_consts-compare_consts-requires-clause-no_error : goal.structurally_relate_consts-compare_consts-requires-clause-no_error
+structurally_relate_consts-compare_consts-requires-clause-no_error g t c = (
   (λ h. false≢true (sym c.if-is_error_const_of.false ∙ c.is_error_const_of.ensures.1 h)),
   λ h. false≢true (sym c.if-is_error_const_of-2.false ∙ c.is_error_const_of-2.ensures.1 h),
 )
 
-pub structurally_relate_consts-returns-in_err-compare_consts_of : goal.structurally_relate_consts-returns-in_err-compare_consts_of
-structurally_relate_consts-returns-in_err-compare_consts_of g t c =
+pub structurally_relate_consts-returns-in_err-compare_consts : goal.structurally_relate_consts-returns-in_err-compare_consts
+structurally_relate_consts-returns-in_err-compare_consts g t c =
     let r = g.R.HasState.state c.args.r.now in
     let M = g.R.TypeRelation.manner in
     let a = (r.meaning).const_ c.args.a.now in
@@ -910,13 +911,13 @@ structurally_relate_consts-returns-in_err-compare_consts_of g t c =
     let e = g.met.R.TypeRelation.reads c.args.r.now in
     let cx = g.R.TypeRelation.interner c.args.r.now in
     let sorted : Sorted r.meaning = subst (λ m. Sorted m) (sym e) (g.met.I.Interner.sorted cx) in
-    let n = c.in_err-compare_consts_of in
+    let n = c.in_err-compare_consts in
     let k = c.requires.asked in
     let failed = as_err c.from_residual.result (Unrelated n.field-0.0) c.from_residual.ensures.0 c.from_residual.ensures.1 in
     subst (λ z. RelatedForms M r r r.ambient a b (r.meaning).const_ z) (sym failed)
     (consts_differ M r r.ambient (r.meaning).const_ c.args.a.now c.args.b.now n.field-0.0 c.requires.decides c.requires.a_formed c.requires.b_formed
     (sorted.const_ c.args.a.now k.left_known) (sorted.const_ c.args.b.now k.right_known) k.left_known k.right_known
-    (n.ensures).errors)
+    (subst (λ m. ConstFormError m c.args.a.now c.args.b.now n.field-0.0) c.cx.ensures (n.ensures).errors))
 
 pub structurally_relate_consts-loop-i-init : goal.structurally_relate_consts-loop-i-init
 structurally_relate_consts-loop-i-init g t c =
@@ -928,7 +929,8 @@ structurally_relate_consts-loop-i-init g t c =
     let cx = g.R.TypeRelation.interner c.args.r.now in
     let sorted : Sorted r.meaning = subst (λ m. Sorted m) (sym e) (g.met.I.Interner.sorted cx) in
     let k = c.requires.asked in
-    let alike = (c.in_ok-compare_consts_of.ensures).alike in
+    let alike = subst (λ m. AreOfOneConst (m.const_ c.args.a.now) (m.const_ c.args.b.now)) c.cx.ensures
+    (c.in_ok-compare_consts.ensures).alike in
     record {
       lawful = c.requires.lawful;
       fronted = fronted_none g.R.TypeRelation.manner r (const_head_of a) r.ambient (const_parts_of a) (const_parts_of b);
@@ -960,7 +962,8 @@ structurally_relate_consts-relate_with_variance-related-requires g t c κs withi
     let extends = ((inv.fronted).passes).extends in
     let same_a : (q.meaning).const_ c.args.a.now ≡ a = extends.const_ c.args.a.now k.left_known in
     let same_b : (q.meaning).const_ c.args.b.now ≡ b = extends.const_ c.args.b.now k.right_known in
-    let alike = (c.in_ok-compare_consts_of.ensures).alike in
+    let alike = subst (λ m. AreOfOneConst (m.const_ c.args.a.now) (m.const_ c.args.b.now)) c.cx.ensures
+    (c.in_ok-compare_consts.ensures).alike in
     let test = c.loop-i-test.true in
     let lx : i < count (const_parts_of a) = omega (arith, test, inv.left_count) in
     let ly : i < count (const_parts_of b) = omega (arith, test, inv.right_count) in
@@ -998,7 +1001,8 @@ structurally_relate_consts-returns-in_err-keep_const_answer g t c =
     let extends = ((inv.fronted).passes).extends in
     let same_a : (q.meaning).const_ c.args.a.now ≡ a = extends.const_ c.args.a.now k.left_known in
     let same_b : (q.meaning).const_ c.args.b.now ≡ b = extends.const_ c.args.b.now k.right_known in
-    let alike = (c.in_ok-compare_consts_of.ensures).alike in
+    let alike = subst (λ m. AreOfOneConst (m.const_ c.args.a.now) (m.const_ c.args.b.now)) c.cx.ensures
+    (c.in_ok-compare_consts.ensures).alike in
     let test = c.loop-i-test.true in
     let lx : i < count (const_parts_of a) = omega (arith, test, inv.left_count) in
     let ly : i < count (const_parts_of b) = omega (arith, test, inv.right_count) in
@@ -1058,7 +1062,8 @@ structurally_relate_consts-loop-i-preserved g t c =
     let extends = ((inv.fronted).passes).extends in
     let same_a : (q.meaning).const_ c.args.a.now ≡ a = extends.const_ c.args.a.now k.left_known in
     let same_b : (q.meaning).const_ c.args.b.now ≡ b = extends.const_ c.args.b.now k.right_known in
-    let alike = (c.in_ok-compare_consts_of.ensures).alike in
+    let alike = subst (λ m. AreOfOneConst (m.const_ c.args.a.now) (m.const_ c.args.b.now)) c.cx.ensures
+    (c.in_ok-compare_consts.ensures).alike in
     let test = c.loop-i-test.true in
     let lx : i < count (const_parts_of a) = omega (arith, test, inv.left_count) in
     let ly : i < count (const_parts_of b) = omega (arith, test, inv.right_count) in
@@ -1143,7 +1148,8 @@ structurally_relate_consts-returns-then-is_empty g t c =
     let extends = ((inv.fronted).passes).extends in
     let same_a : (q.meaning).const_ c.args.a.now ≡ a = extends.const_ c.args.a.now k.left_known in
     let same_b : (q.meaning).const_ c.args.b.now ≡ b = extends.const_ c.args.b.now k.right_known in
-    let alike = (c.in_ok-compare_consts_of.ensures).alike in
+    let alike = subst (λ m. AreOfOneConst (m.const_ c.args.a.now) (m.const_ c.args.b.now)) c.cx.ensures
+    (c.in_ok-compare_consts.ensures).alike in
     let test = c.loop-i-test.false in
     let end = (c.loop-i.auto).i-end in
     let left : i ≡ count (const_parts_of a) = omega (arith, test, end, inv.left_count) in
@@ -1173,7 +1179,8 @@ structurally_relate_consts-make_const-requires-clause-fits g t c =
     let extends = ((inv.fronted).passes).extends in
     let same_a : (q.meaning).const_ c.args.a.now ≡ a = extends.const_ c.args.a.now k.left_known in
     let same_b : (q.meaning).const_ c.args.b.now ≡ b = extends.const_ c.args.b.now k.right_known in
-    let alike = (c.in_ok-compare_consts_of.ensures).alike in
+    let alike = subst (λ m. AreOfOneConst (m.const_ c.args.a.now) (m.const_ c.args.b.now)) c.cx.ensures
+    (c.in_ok-compare_consts.ensures).alike in
     let test = c.loop-i-test.false in
     let end = (c.loop-i.auto).i-end in
     let left : i ≡ count (const_parts_of a) = omega (arith, test, end, inv.left_count) in
@@ -1197,7 +1204,8 @@ structurally_relate_consts-returns g t c =
     let extends = ((inv.fronted).passes).extends in
     let same_a : (q.meaning).const_ c.args.a.now ≡ a = extends.const_ c.args.a.now k.left_known in
     let same_b : (q.meaning).const_ c.args.b.now ≡ b = extends.const_ c.args.b.now k.right_known in
-    let alike = (c.in_ok-compare_consts_of.ensures).alike in
+    let alike = subst (λ m. AreOfOneConst (m.const_ c.args.a.now) (m.const_ c.args.b.now)) c.cx.ensures
+    (c.in_ok-compare_consts.ensures).alike in
     let test = c.loop-i-test.false in
     let end = (c.loop-i.auto).i-end in
     let left : i ≡ count (const_parts_of a) = omega (arith, test, end, inv.left_count) in
@@ -2743,23 +2751,23 @@ relate_parts-returns-in-Binder g t c =
       alike = λ o. absurd (binder_not_compared c.args.a.now binder o);
     }
 
-pub relate_parts-compare_parts_of-requires-clause-kind : goal.relate_parts-compare_parts_of-requires-clause-kind
-relate_parts-compare_parts_of-requires-clause-kind g t c =
+pub relate_parts-compare_parts-requires-clause-kind : goal.relate_parts-compare_parts-requires-clause-kind
+relate_parts-compare_parts-requires-clause-kind g t c =
     let no_arg : IsArgPart c.args.a.now → ⊥ = λ o. let e = (c.in-Form.ensures.argument).1 o in absurd (cc) in
     let no_binder : IsBinderPart c.args.a.now → ⊥ = λ o. let e = (c.in-Form.ensures.binder).1 o in absurd (cc) in
     let kind : IsComparedPart c.args.a.now = form_compared c.args.a.now c.requires.kind no_arg no_binder in
     kind
 
-pub relate_parts-compare_parts_of-requires-clause-one_sort : goal.relate_parts-compare_parts_of-requires-clause-one_sort
-relate_parts-compare_parts_of-requires-clause-one_sort g t c =
+pub relate_parts-compare_parts-requires-clause-one_sort : goal.relate_parts-compare_parts-requires-clause-one_sort
+relate_parts-compare_parts-requires-clause-one_sort g t c =
     let no_arg : IsArgPart c.args.a.now → ⊥ = λ o. let e = (c.in-Form.ensures.argument).1 o in absurd (cc) in
     let no_binder : IsBinderPart c.args.a.now → ⊥ = λ o. let e = (c.in-Form.ensures.binder).1 o in absurd (cc) in
     let kind : IsComparedPart c.args.a.now = form_compared c.args.a.now c.requires.kind no_arg no_binder in
     let one_sort = paired_compared c.args.a.now c.args.b.now kind c.requires.paired in
     one_sort
 
-pub relate_parts-returns-in_err-compare_parts_of-in-Form : goal.relate_parts-returns-in_err-compare_parts_of-in-Form
-relate_parts-returns-in_err-compare_parts_of-in-Form g t c =
+pub relate_parts-returns-in_err-compare_parts-in-Form : goal.relate_parts-returns-in_err-compare_parts-in-Form
+relate_parts-returns-in_err-compare_parts-in-Form g t c =
     let r = g.R.HasState.state c.args.r.now in
     let M = g.R.TypeRelation.manner in
     let a = part_tree r.meaning c.args.a.now in
@@ -2775,15 +2783,15 @@ relate_parts-returns-in_err-compare_parts_of-in-Form g t c =
     let form = compared_is r.meaning sorted c.args.a.now kind k.left_known in
     let other_kind : IsComparedPart c.args.b.now = compared_as c.args.a.now c.args.b.now kind one_sort in
     let other = compared_is r.meaning sorted c.args.b.now other_kind k.right_known in
-    let n = c.in_err-compare_parts_of-in-Form in
-    let failed = as_err c.from_residual-in_err-compare_parts_of-in-Form.result (Unrelated n.field-0.0)
-    c.from_residual-in_err-compare_parts_of-in-Form.ensures.0 c.from_residual-in_err-compare_parts_of-in-Form.ensures.1 in
+    let n = c.in_err-compare_parts-in-Form in
+    let failed = as_err c.from_residual-in_err-compare_parts-in-Form.result (Unrelated n.field-0.0)
+    c.from_residual-in_err-compare_parts-in-Form.ensures.0 c.from_residual-in_err-compare_parts-in-Form.ensures.1 in
     record {
       related = subst (λ z. Related M r r r.ambient a b (part_tree r.meaning) z) (sym failed)
           (terms_differ M r r.ambient (part_tree r.meaning) (part_sort c.args.a.now) (part_sort c.args.b.now) a b
           n.field-0.0 c.requires.decides form other (part_sorted r.meaning sorted c.args.a.now k.left_known form)
           (part_sorted r.meaning sorted c.args.b.now k.right_known other) k.left_known k.right_known
-          (n.ensures).errors);
+          (subst (λ m. PartsDiffer m c.args.a.now c.args.b.now n.field-0.0) c.cx.ensures (n.ensures).errors));
       sort = subst (λ u. IfOk u (λ z. part_sort z ≡ part_sort c.args.a.now)) (sym failed) tt;
       predicate = subst (λ u. IfOk u (λ z. form_of_part z ≡ form_of_part c.args.a.now)) (sym failed) tt;
       alike = λ o. subst (λ u. OnOk u (AreOfOneForm a b)) (sym failed) tt;
@@ -2807,7 +2815,8 @@ relate_parts-relate_in_order-requires g t c κs within =
     let lawful = c.requires.lawful in
     let decides = c.requires.decides in
     let asked = c.requires.asked in
-    let alike = (c.in_ok-compare_parts_of-in-Form.ensures).alike in
+    let alike = subst (λ m. AreOfOneForm (part_tree m c.args.a.now) (part_tree m c.args.b.now)) c.cx.ensures
+    (c.in_ok-compare_parts-in-Form.ensures).alike in
     let under : 8 * depth (r.store).budget (weight r.store a + weight r.store b) <
     8 * depth (r.store).budget (weight r.store a + weight r.store b) + 6 = omega arith in
     let d = c.decreases in (
@@ -2833,8 +2842,8 @@ relate_parts-relate_in_order-requires g t c κs within =
       ),
     )
 
-pub relate_parts-returns-in_ok-compare_parts_of-in-Form : goal.relate_parts-returns-in_ok-compare_parts_of-in-Form
-relate_parts-returns-in_ok-compare_parts_of-in-Form g t c =
+pub relate_parts-returns-in_ok-compare_parts-in-Form : goal.relate_parts-returns-in_ok-compare_parts-in-Form
+relate_parts-returns-in_ok-compare_parts-in-Form g t c =
     let r = g.R.HasState.state c.args.r.now in
     let M = g.R.TypeRelation.manner in
     let a = part_tree r.meaning c.args.a.now in
@@ -2849,11 +2858,13 @@ relate_parts-returns-in_ok-compare_parts_of-in-Form g t c =
     let form = compared_is r.meaning sorted c.args.a.now kind (c.requires.asked).left_known in
     record {
       related = forms_met M r.ambient a b (part_tree q.meaning) res
-          (form_not_left r.kept.settings a b form (c.in_ok-compare_parts_of-in-Form.ensures).alike)
+          (form_not_left r.kept.settings a b form (subst (λ m. AreOfOneForm (part_tree m c.args.a.now) (part_tree m c.args.b.now)) c.cx.ensures
+          (c.in_ok-compare_parts-in-Form.ensures).alike))
           (c.relate_in_order.ensures).related;
       sort = (c.relate_in_order.ensures).sort;
       predicate = (c.relate_in_order.ensures).predicate;
-      alike = λ o. on_ok res (AreOfOneForm a b) (c.in_ok-compare_parts_of-in-Form.ensures).alike;
+      alike = λ o. on_ok res (AreOfOneForm a b) (subst (λ m. AreOfOneForm (part_tree m c.args.a.now) (part_tree m c.args.b.now)) c.cx.ensures
+          (c.in_ok-compare_parts-in-Form.ensures).alike);
     }
 
 pub structurally_relate_tys-relate_in_order-requires : goal.structurally_relate_tys-relate_in_order-requires
@@ -2937,8 +2948,8 @@ structurally_relate_tys-part_of-y-requires-clause-over_args g t c =
     let back = alike_back a b ((subst (Starts (g.R.HasState.state c.args.r.now).meaning c.args.a.now c.args.b.now) c.in-Over.is c.in_ok-start.ensures.starts).alike) in
     λ o. (subst (Starts (g.R.HasState.state c.args.r.now).meaning c.args.a.now c.args.b.now) c.in-Over.is c.in_ok-start.ensures.starts).over_args (term_alike b a back (subst IsByParts same o))
 
-pub binders-returns-then-is_same_of : goal.binders-returns-then-is_same_of
-binders-returns-then-is_same_of g t c =
+pub binders-returns-then-is_same : goal.binders-returns-then-is_same
+binders-returns-then-is_same g t c =
     let r = g.R.HasState.state c.args.r.now in
     let M = g.R.TypeRelation.manner in
     let a = part_tree r.meaning c.args.a.now in
@@ -2946,7 +2957,8 @@ binders-returns-then-is_same_of g t c =
     let k = c.requires.asked in
     record {
       related = itself_related M r r.ambient (part_tree r.meaning) a b c.args.a.now
-          (c.is_same_of.ensures c.if-is_same_of.true) refl k.left_known;
+          (subst (λ m. part_tree m c.args.a.now ≡ part_tree m c.args.b.now) c.cx.ensures
+          (c.is_same.ensures.one c.if-is_same.true)) refl k.left_known;
       sort = refl;
     }
 
