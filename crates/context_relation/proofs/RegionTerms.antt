@@ -5,6 +5,7 @@ use Rattle.term_enums.specs.declared.Variance.TheVariants.{Covariant, Contravari
 use Rattle.relation_terms.specs.Heads.{Sort, region_kind, type_kind, const_kind, BoundKind, bound_kind, bound_sort, region_var, region_sort, term_of, one, leaf_sort, Leaf, Atom, atom_sort, type_param, const_param, static_region, early_region, atom, variable, bound, placeholder, unknown, Head, value_type, alias, alias_term, unevaluated, host_effect, subtype, region_outlives, type_outlives, projection, const_has_type, well_formed, const_evaluatable, coerce, normalizes_to, alias_relate, environment}
 use Rattle.relation_terms.specs.Trees.{Tree, leaf, node, bind, nil, cons, Leaves, inst, put, tree_at, size, IsList, IsTerm}
 use Rattle.relation_terms.specs.Erasure.{erase, erase_leaf, erase_atom, kept_parts}
+use Rattle.relation_semantics.specs.Binders.{placeholders_from}
 use Rattle.relation_semantics.specs.Relation.{Items, Interpretation, parts, second_opened, first_opened, Rel, at, same, anything, error_left, error_right, regions, alias_types, equal_consts, atoms, forms, no_parts, next_part, covariant_binders, contravariant_binders, invariant_binders, open_second, open_first, part_at, plain, plain_atom, sort_of, IsError, IsErrorAtom, IsAlias, IsAliasHead, IsRelatedHead, AliasRule, IsValueLeaf, FitKinds, Fresh, RegionRule, all_outlive}
 use Rattle.relation_semantics.specs.FirstOrder.{IsFirstOrderAtom}
 use Rattle.relation_semantics.specs.Stores.{IsNamable}
@@ -18,7 +19,7 @@ use Rattle.relation_semantics.proofs.Agreeing.{agree_anything, agree_same, open_
 use Rattle.relation_semantics.proofs.Erased.{erase_region, erase_plain, no_error_atom}
 use Rattle.relation_semantics.proofs.Related.{no_region_head}
 use Rattle.relation_semantics.proofs.Standing.{term_sort_of}
-use Rattle.relation_semantics.proofs.Values.{fresh_later, some_placeholders, some_are_placeholders}
+use Rattle.relation_semantics.proofs.Values.{fresh_later, placeholders_are}
 use Rattle.relation_terms.proofs.Members.{size_positive}
 use Rattle.context_relation.proofs.Shapes.{IsNode, HasOneType, IsShaped, shaped}
 use Rattle.relation_terms.proofs.Erasing.{erased_atom}
@@ -315,17 +316,17 @@ module _ (c : Items) (w : Interpretation) (e : Tree) (v : Variance) (ks ls : Lis
   abbrev later : ℕ
   later = top a + top b
 
-  fresh_second : Fresh ls (some_placeholders (suc later) 0 ls) a b
-  fresh_second = fresh_later later (suc later) ls _ a b (omega arith) (some_are_placeholders (suc later) 0 ls) (top_names a later ra (omega arith)) (top_names b later rb (omega arith))
+  fresh_second : Fresh ls (placeholders_from (suc later) 0 ls) a b
+  fresh_second = fresh_later later (suc later) ls _ a b (omega arith) (placeholders_are (suc later) 0 ls) (top_names a later ra (omega arith)) (top_names b later rb (omega arith))
 
-  fresh_first : Fresh ks (some_placeholders (suc later) 0 ks) a b
-  fresh_first = fresh_later later (suc later) ks _ a b (omega arith) (some_are_placeholders (suc later) 0 ks) (top_names a later ra (omega arith)) (top_names b later rb (omega arith))
+  fresh_first : Fresh ks (placeholders_from (suc later) 0 ks) a b
+  fresh_first = fresh_later later (suc later) ks _ a b (omega arith) (placeholders_are (suc later) 0 ks) (top_names a later ra (omega arith)) (top_names b later rb (omega arith))
 
   second : Rel c w e (second_opened ks ls v) a b
-  second = open_second (some_values ks) (some_placeholders (suc later) 0 ls) (some_values_fit ks h) fresh_second (bodies _ _ (values_are_regions ks _ h (some_values_fit ks h)) (placeholders_are_regions ls _ a b k fresh_second))
+  second = open_second (some_values ks) (placeholders_from (suc later) 0 ls) (some_values_fit ks h) fresh_second (bodies _ _ (values_are_regions ks _ h (some_values_fit ks h)) (placeholders_are_regions ls _ a b k fresh_second))
 
   first : Rel c w e (first_opened ks ls v) a b
-  first = open_first (some_placeholders (suc later) 0 ks) (some_values ls) fresh_first (some_values_fit ls k) (bodies _ _ (placeholders_are_regions ks _ a b h fresh_first) (values_are_regions ls _ k (some_values_fit ls k)))
+  first = open_first (placeholders_from (suc later) 0 ks) (some_values ls) fresh_first (some_values_fit ls k) (bodies _ _ (placeholders_are_regions ks _ a b h fresh_first) (values_are_regions ls _ k (some_values_fit ls k)))
 
   binders_related : Rel c w e (at v) (bind ks a) (bind ls b)
   binders_related = go v refl

@@ -1,6 +1,7 @@
 -- What a test of a pair answers of two types.
 use Rattle.std.proofs.Common.{◌≡◌, ◌⊎◌, ◌↔◌, ℕ, suc, ◌<◌, Bool, true, false, IsTrue, refl, sym, ap, ◌∙◌, subst, inl, inr, arith}
 use Rattle.std.proofs.Common.{Option, Some, None, cond}
+use Rattle.std.proofs.lemmas.Bool.{false_from_ne_true}
 use Rattle.relation_terms.specs.Heads.{type_sort, const_sort, region_sort, Head, head_sort, alias, unevaluated, expression}
 use Rattle.relation_terms.specs.Heads.{raw_ptr, ref}
 use Rattle.relation_terms.specs.Trees.{Tree, leaf, node, bind, nil, cons, known, size}
@@ -76,10 +77,6 @@ same_answer true v f g = sym (f refl)
 same_answer false true f g = g refl
 same_answer false false f g = refl
 
-never_true : (w : Bool) → (w ≡ true → ⊥) → w ≡ false
-never_true true n = absurd (n refl)
-never_true false n = refl
-
 -- A test of two types of unlike forms answers whether the left one stands for the right.
 module _ (l r : Bool) (d : ℕ) (a b : Tree) (ta : tree_sort a ≡ type_sort) (tb : tree_sort b ≡ type_sort) (e : ℕ)
     (w : Bool) (z : d ≡ suc e) (f : flexible r b ≡ false) (n : OneOutline a b → ⊥)
@@ -94,7 +91,7 @@ module _ (l r : Bool) (d : ℕ) (a b : Tree) (ta : tree_sort a ≡ type_sort) (t
   told_by false g =
       let s : stands l a b ≡ None = ap (λ p. cond p (Some (may_stand a b)) None) g in
       let never : w ≡ true → ⊥ = (λ i. nothing_inside true (sym s ∙ o.0 i)) in
-      (λ i. forms_clash l r d a b ta tb e z f g n, λ c. never_true w never)
+      (λ i. forms_clash l r d a b ta tb e z f g n, λ c. false_from_ne_true w never)
 
   pub apart_decides : (w ≡ false) ↔ Clash l r d a b
   apart_decides = told_by (flexible l a) refl

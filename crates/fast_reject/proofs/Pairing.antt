@@ -23,7 +23,7 @@ use Rattle.relation_terms.specs.declared.terms.fn_sig.FnSigTys.{FnSigTys}
 use Rattle.relation_folds.specs.Forms.{Form, Outline, Tuple, FnPtr}
 use Rattle.relation_folds.specs.Clashes.{Clash, OneOutline, outline, of_item, plain, counted, pointer_form, reference_form}
 use Rattle.relation_folds.specs.Clashes.{of_object, principal, is_between, between, here, further}
-use Rattle.relation_folds.proofs.FieldFolding.{one_known}
+use Rattle.relation_terms.proofs.Predicates.{one_known}
 use Rattle.fast_reject.specs.Pairs.{Pairs}
 use Rattle.fast_reject.specs.declared.pairs.Pair.{Pair}
 use Rattle.fast_reject.specs.declared.pairs.Pair.TheVariants.{Apart, Nothing, Types, Arrays, Lists, Args}

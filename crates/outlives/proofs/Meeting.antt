@@ -21,11 +21,7 @@ use Rattle.outlives.specs.Collecting.{Settled, Meets, Keeps, kept_of}
 use Rattle.outlives.specs.declared.Component.{Component}
 use Rattle.outlives.proofs.Outliving.{meets_none, meets_kept, meets_after, settled_kept, adds_none}
 
--- What holds anyway, what is asked of no fault, and what follows where there is a value.
-pub ok_any : {E P : Type 0} (r : Result (Unit {0}) E) → P → OnOk r P
-ok_any (Ok u) p = p
-ok_any (Err e) p = tt
-
+-- What is asked of no fault, and what follows where there is a value.
 pub ok_never : {E : Type 0} (P : Type 0) (r : Result (Unit {0}) E) → IsErr r → OnOk r P
 ok_never P (Ok u) f = absurd (cc)
 ok_never P (Err e) f = tt

@@ -155,7 +155,7 @@ module _ {A B : Type 0} (f : A → B) where
   mapped_filter h (c ∷ cs) =
       ap (cons_option (option_map f (h c))) (mapped_filter h cs) ∙ mapped_option (h c) (filter_map h cs)
 
-abbrev Known : Tree → Type 0
+abbrev pub Known : Tree → Type 0
 Known t = IsTrue (known t)
 
 abbrev pair : Tree → Tree → Tree × Tree

@@ -2,7 +2,7 @@
 use Rattle.std.proofs.Common.{◌≡◌, IsTrue, Bool, true, false, ◌&&◌, eqb, refl, ap, ap₂, ◌∙◌}
 use Rattle.std.proofs.lemmas.Bool.{false≢true, eqb-true, and_parts, and_from}
 use Rattle.std.proofs.Math.Bool.{beq}
-use Rattle.relation_terms.proofs.Same.{bool_same, bool_self}
+use Rattle.relation_terms.proofs.Same.{bool_same, bool_self, polarity_eq, polarity_same}
 use Rattle.term_enums.specs.declared.PredicatePolarity.{PredicatePolarity}
 use Rattle.term_enums.specs.declared.PredicatePolarity.TheVariants.{Positive, Negative}
 use Rattle.term_enums.specs.declared.BoundConstness.{BoundConstness}
@@ -38,7 +38,6 @@ use Rattle.reference_interner.specs.contracts.keys.ItemIdPartialEq.TheImpl as it
 use Rattle.reference_interner.specs.contracts.keys.ItemId as item
 use Rattle.reference_interner.specs.contracts.keys.SymbolIdPartialEq.TheImpl as symbol_impl
 use Rattle.reference_interner.specs.contracts.keys.SymbolId as symbol
-use Rattle.term_enums.specs.contracts.PredicatePolarityPartialEq.TheImpl as polarity_impl
 use Rattle.term_enums.specs.contracts.BoundConstnessPartialEq.TheImpl as constness_impl
 use Rattle.term_enums.specs.contracts.AliasRelationDirectionPartialEq.TheImpl as direction_impl
 use Rattle.relation_terms.specs.contracts.predicate.alias_term.AliasTermKindPartialEq.TheImpl as kind_impl
@@ -46,9 +45,6 @@ use Rattle.relation_terms.specs.contracts.predicate.kinds.ClauseKindPartialEq.Th
 use Rattle.relation_terms.specs.contracts.predicate.kinds.PredicateKindPartialEq.TheImpl as predicate_impl
 use Rattle.reference_interner.proofs.AlikeFormLemmas.{node_eq, one_number, two_numbers, two_selves, eqb_self}
 use Rattle.reference_interner.proofs.AlikeElementLemmas.{term_eq, term_same, term_self}
-
-abbrev polarity_eq : PredicatePolarity → PredicatePolarity → Bool
-polarity_eq = polarity_impl.ghosts.eq
 
 abbrev constness_eq : BoundConstness → BoundConstness → Bool
 constness_eq = constness_impl.ghosts.eq
@@ -74,11 +70,6 @@ abbrev predicate_eq : PredicateKind NodeKey ItemId SymbolId → PredicateKind No
 predicate_eq =
     (predicate_impl.ghosts key.the_row item.the_row symbol.the_row key_impl.ghosts key_impl.dict item_impl.ghosts
     item_impl.dict symbol_impl.ghosts symbol_impl.dict).eq
-
-polarity_same : (a b : PredicatePolarity) → IsTrue (polarity_eq a b) → a ≡ b
-polarity_same Positive Positive h = refl
-polarity_same Negative Negative h = refl
-polarity_same _ _ h = absurd (false≢true h)
 
 polarity_self : (a : PredicatePolarity) → IsTrue (polarity_eq a a)
 polarity_self Positive = refl

@@ -27,10 +27,10 @@ use Rattle.relation_semantics.specs.Agreeing.{AgreeIn}
 use Rattle.relation_semantics.proofs.AgreeingBefore.{opened_agreed, came_free}
 use Rattle.relation_semantics.proofs.Growing.{same_entries, new_unbound}
 use Rattle.relation_semantics.specs.Generalising.{MakesUnbound}
-use Rattle.relation_semantics.specs.Binders.{variable_kind, MakesEach, makes_none, makes_next, InstantiatesEach}
+use Rattle.relation_semantics.specs.Binders.{variable_kind, MakesEach, makes_none, makes_next, InstantiatesEach, placeholders_from}
 use Rattle.relation_semantics.proofs.Trees.{Leaves_map₂, inst_within, apply_alike}
 use Rattle.relation_semantics.proofs.Standing.{later_term, term_context, term_namable}
-use Rattle.relation_semantics.proofs.Values.{some_placeholders, some_are_placeholders}
+use Rattle.relation_semantics.proofs.Values.{placeholders_are}
 use Rattle.relation_semantics.proofs.Tallies.{all_alike}
 use Rattle.relation_semantics.proofs.Resolved.{resolved_same}
 use Rattle.relation_semantics.proofs.StoreCalls.{nothing_is_seen}
@@ -163,10 +163,10 @@ variables_stand_for (makes_next {ks = ks} {xs = xs} {n = n} k f q p e) = subst�
 -- Where a body uses nothing of its binder any stand-ins leave it.
 pub unused_stand_ins : {now : Store} (ks : List BoundKind) (t : Tree) → StaysWithin 0 t → StandIns now ks t t
 unused_stand_ins ks t h = record {
-  trees = some_placeholders 0 0 ks;
-  stand = placeholders_stand_for 0 ks (some_placeholders 0 0 ks) (some_are_placeholders 0 0 ks);
-  put = sym (inst_within (some_placeholders 0 0 ks) 0 t h);
-  unknown_then = λ st g l. placeholders_stay st 0 ks (some_placeholders 0 0 ks) (some_are_placeholders 0 0 ks);
+  trees = placeholders_from 0 0 ks;
+  stand = placeholders_stand_for 0 ks (placeholders_from 0 0 ks) (placeholders_are 0 0 ks);
+  put = sym (inst_within (placeholders_from 0 0 ks) 0 t h);
+  unknown_then = λ st g l. placeholders_stay st 0 ks (placeholders_from 0 0 ks) (placeholders_are 0 0 ks);
 }
 
 entered_stand_ins : {now : Store} (before after : Store) (ks : List BoundKind) (t x : Tree) →

@@ -1,6 +1,6 @@
 -- Folds of the parts of predicates, one after another.
 use Rattle.std.proofs.Common.{ℕ, ◌≡◌, refl, sym, ap₂, ◌∙◌, Option, Some, None, IfSome, IsTrue, true, ◌&&◌}
-use Rattle.std.proofs.lemmas.Bool.{and_parts, and_from}
+use Rattle.std.proofs.lemmas.Bool.{and_from}
 use Rattle.relation_terms.specs.Trees.{Tree, nil, cons, known}
 use Rattle.relation_terms.specs.Meaning.{Meaning, Extends}
 use Rattle.relation_terms.specs.Fields.{field_tree, fields_tree}
@@ -12,15 +12,7 @@ use Rattle.relation_folds.specs.Folds.{folded}
 use Rattle.relation_folds.specs.FieldFolds.{FoldsField, FoldsFields, two_or_none}
 use Rattle.relation_folds.proofs.Folding.{folded_later}
 
--- One known part, and two.
-pub one_known : (t : Tree) → IsTrue (known (cons t nil)) → IsTrue (known t)
-one_known t k = (and_parts (known t) true k).0
-
-pub two_known : (t u : Tree) → IsTrue (known (cons t (cons u nil))) → IsTrue (known t) × IsTrue (known u)
-two_known t u k =
-    let p = and_parts (known t) (known u && true) k in
-    (p.0, one_known u p.1)
-
+-- Two known parts.
 pub both_known : (t u : Tree) → IsTrue (known t) → IsTrue (known u) → IsTrue (known (cons t (cons u nil)))
 both_known t u h k = and_from (known t) (known u && true) h (and_from (known u) true k refl)
 

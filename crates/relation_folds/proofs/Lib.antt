@@ -4,6 +4,7 @@ pub mod Depths
 pub mod Found
 pub mod Remembering
 pub mod Searching
+pub mod Testing
 pub mod Folding
 pub mod Members
 pub mod Shifting

@@ -10,8 +10,9 @@ use Rattle.relation_terms.specs.Trees.{Tree, leaf, node, bind, nil, cons, inst, 
 use Rattle.term_enums.specs.declared.UintTy.TheVariants.{U8}
 use Rattle.term_enums.specs.declared.PredicatePolarity.{PredicatePolarity}
 use Rattle.term_enums.specs.Variances.{xform}
+use Rattle.relation_terms.specs.Meaning.{value_tree}
 use Rattle.relation_semantics.specs.Relation.{Items, Interpretation, parts, second_opened, first_opened, Rel, at, same, anything, regions, atoms, forms, no_parts, next_part, covariant_binders, open_second, open_first, Outlives, itself, sort_of, RegionRule, IsRelatedHead, plain_atom, error_left, error_right, alias_types, equal_consts, contravariant_binders, invariant_binders, Avoids}
-use Rattle.relation_laws.specs.SmallTerms.{u8, bool, static, named, ref_to, value_of, fn_of, a_region, bound_region, region_placeholder, IsReflexive, AnythingAtBivariance, ErrorsAreRelated, ParametersByIndex, ValuesByTheirTrees, ReferencesByRegions, MutablePointeesAreFixed, InputsTurnRound, BivariantArguments, UnlikeHeadsAreUnrelated, UnlikeAtomsAreUnrelated, AtomsAreNoForms, FormsByParts, IsPredicateSort, PredicatesWithThemselvesAlone, AnyIsStatic, StaticIsNotAny, PlaceholderIsNotAny, OneRegionIsNotTwo, AnyIsNotInvariantlyStatic}
+use Rattle.relation_laws.specs.SmallTerms.{u8, bool, static, named, ref_to, fn_of, a_region, bound_region, region_placeholder, IsReflexive, AnythingAtBivariance, ErrorsAreRelated, ParametersByIndex, ValuesByTheirTrees, ReferencesByRegions, MutablePointeesAreFixed, InputsTurnRound, BivariantArguments, UnlikeHeadsAreUnrelated, UnlikeAtomsAreUnrelated, AtomsAreNoForms, FormsByParts, IsPredicateSort, PredicatesWithThemselvesAlone, AnyIsStatic, StaticIsNotAny, PlaceholderIsNotAny, OneRegionIsNotTwo, AnyIsNotInvariantlyStatic}
 use Rattle.relation_terms.proofs.Members.{region_only}
 use Rattle.relation_semantics.proofs.Related.{region_of, heads_inverted, forms_inverted, others_inverted, atoms_inverted, covariant_opened, invariant_opened, no_form_left, no_form_right}
 
@@ -37,19 +38,19 @@ parameters_by_index c w e v i j n m b = (
   (λ r. const_index n m (atoms_inverted b (λ h. h) (λ h. h) (λ h. cc) r), λ p. atoms (ap (λ z. const_param z 0) p)),
 )
 
-value_tree : {c : Items} {w : Interpretation} {e : Tree} (v : Variance) {ty ty' t t' : Tree} → Rel c w e (parts value 0 v) (cons (node value_type (cons ty nil)) (cons t nil)) (cons (node value_type (cons ty' nil)) (cons t' nil)) → Rel c w e (at v) t t'
-value_tree Covariant (next_part _ (next_part r _)) = r
-value_tree Contravariant (next_part _ (next_part r _)) = r
-value_tree Invariant (next_part _ (next_part r _)) = r
-value_tree Bivariant r = anything refl
+value_parts : {c : Items} {w : Interpretation} {e : Tree} (v : Variance) {ty ty' t t' : Tree} → Rel c w e (parts value 0 v) (cons (node value_type (cons ty nil)) (cons t nil)) (cons (node value_type (cons ty' nil)) (cons t' nil)) → Rel c w e (at v) t t'
+value_parts Covariant (next_part _ (next_part r _)) = r
+value_parts Contravariant (next_part _ (next_part r _)) = r
+value_parts Invariant (next_part _ (next_part r _)) = r
+value_parts Bivariant r = anything refl
 
-values_back : {c : Items} {w : Interpretation} {e : Tree} (v : Variance) {ty ty' t t' : Tree} → Rel c w e (at v) (value_of ty t) (value_of ty' t') → Rel c w e (at v) t t'
-values_back Covariant r = value_tree Covariant (forms_inverted (λ p. cc) (λ h. h) (λ h. h) tt r).1
-values_back Contravariant r = value_tree Contravariant (forms_inverted (λ p. cc) (λ h. h) (λ h. h) tt r).1
-values_back Invariant r = value_tree Invariant (forms_inverted (λ p. cc) (λ h. h) (λ h. h) tt r).1
+values_back : {c : Items} {w : Interpretation} {e : Tree} (v : Variance) {ty ty' t t' : Tree} → Rel c w e (at v) (value_tree ty t) (value_tree ty' t') → Rel c w e (at v) t t'
+values_back Covariant r = value_parts Covariant (forms_inverted (λ p. cc) (λ h. h) (λ h. h) tt r).1
+values_back Contravariant r = value_parts Contravariant (forms_inverted (λ p. cc) (λ h. h) (λ h. h) tt r).1
+values_back Invariant r = value_parts Invariant (forms_inverted (λ p. cc) (λ h. h) (λ h. h) tt r).1
 values_back Bivariant r = anything refl
 
-values_forth : {c : Items} {w : Interpretation} {e : Tree} (v : Variance) {ty ty' t t' : Tree} → Rel c w e (at v) t t' → Rel c w e (at v) (value_of ty t) (value_of ty' t')
+values_forth : {c : Items} {w : Interpretation} {e : Tree} (v : Variance) {ty ty' t t' : Tree} → Rel c w e (at v) t t' → Rel c w e (at v) (value_tree ty t) (value_tree ty' t')
 values_forth Covariant r = forms tt refl (next_part (forms tt refl (next_part (anything refl) no_parts)) (next_part r no_parts))
 values_forth Contravariant r = forms tt refl (next_part (forms tt refl (next_part (anything refl) no_parts)) (next_part r no_parts))
 values_forth Invariant r = forms tt refl (next_part (forms tt refl (next_part (anything refl) no_parts)) (next_part r no_parts))

@@ -12,8 +12,9 @@ use Rattle.relation_terms.specs.Heads.{Sort, region_sort}
 use Rattle.relation_terms.specs.Heads.{clause_sort, predicate_sort, environment_sort, head_sort, trait_clause}
 use Rattle.relation_terms.specs.Heads.{region_kind, BoundKind, bound_kind, Atom, atom_sort, bool_type, uint_type}
 use Rattle.relation_terms.specs.Heads.{type_param, const_param, static_region, early_region, Head, adt, tuple, ref}
-use Rattle.relation_terms.specs.Heads.{fn_ptr, signature, inputs, value, value_type, bound, placeholder, atom}
+use Rattle.relation_terms.specs.Heads.{fn_ptr, signature, inputs, bound, placeholder, atom}
 use Rattle.relation_terms.specs.Trees.{Tree, leaf, node, bind, nil, cons, IsList}
+use Rattle.relation_terms.specs.Meaning.{value_tree}
 use Rattle.relation_semantics.specs.Relation.{Items, Interpretation, Rel, at, parts, plain, plain_atom, sort_of, IsError}
 use Rattle.relation_semantics.specs.Relation.{IsErrorAtom, IsAliasHead, IsRelatedHead, Outlives}
 
@@ -35,10 +36,6 @@ ref_to r t = node (ref Not) (cons r (cons t nil))
 
 abbrev pub mut_ref_to : Tree → Tree → Tree
 mut_ref_to r t = node (ref Mut) (cons r (cons t nil))
-
--- A constant of a type with a value tree.
-abbrev pub value_of : Tree → Tree → Tree
-value_of ty tree = node value (cons (node value_type (cons ty nil)) (cons tree nil))
 
 abbrev pub adt_of : ℕ → Tree → Tree
 adt_of d t = node (adt d) (cons t nil)
@@ -86,7 +83,7 @@ ParametersByIndex = (c : Items) (w : Interpretation) (e : Tree) (v : Variance) (
 -- Constant values are related just where their value trees are; their types are not looked at.
 abbrev pub ValuesByTheirTrees : Type 0
 ValuesByTheirTrees = (c : Items) (w : Interpretation) (e : Tree) (v : Variance) (ty ty' t t' : Tree) →
-    Rel c w e (at v) (value_of ty t) (value_of ty' t') ↔ Rel c w e (at v) t t'
+    Rel c w e (at v) (value_tree ty t) (value_tree ty' t') ↔ Rel c w e (at v) t t'
 
 -- Shared references to one type are related just as their regions are: covariantly where the first outlives the
 -- second, contravariantly the other way round, invariantly where both hold.

@@ -27,7 +27,7 @@ use Rattle.relation_terms.proofs.Parts.{sort_known, arg_part}
 use Rattle.relation_semantics.specs.Parts.{direct_parts, branches_of, const_parts_of, IsByParts}
 use Rattle.relation_semantics.specs.Making.{arg_sort, FitArgs, form_over, const_over}
 use Rattle.relation_recursion.proofs.Compared.{value_shape}
-use Rattle.relation_recursion.proofs.MadeAnew.{value_of}
+use Rattle.relation_terms.specs.Meaning.{value_tree}
 
 -- Parts that are arguments, as a form asks for them.
 abbrev IsArgument : Part → Type 0
@@ -121,7 +121,7 @@ branches_as (node h ts) f = absurd f.0
 branches_as (bind ks t) f = absurd f
 branches_as v f = refl
 
-pub value_over : (t v us : Tree) → IsTerm value_sort v → value_of t (term_over v us) ≡ const_over (value_of t v) us
+pub value_over : (t v us : Tree) → IsTerm value_sort v → value_tree t (term_over v us) ≡ const_over (value_tree t v) us
 value_over t (node value_branch ts) us f = refl
 value_over t (node h ts) us f = absurd f.0
 value_over t (bind ks v) us f = absurd f

@@ -4,9 +4,8 @@ use Rattle.std.proofs.Common.{List, [], ◌∷◌, ◌++◌, ◌+◌}
 use Rattle.std.proofs.lemmas.Bool.{and_parts, and_from}
 use Rattle.relation_terms.specs.declared.terms.generic_arg.GenericArgKind.{GenericArgKind}
 use Rattle.relation_terms.specs.declared.terms.generic_arg.GenericArgKind.TheVariants.{Lifetime, Ty, Const}
-use Rattle.relation_terms.specs.Heads.{value, value_type}
 use Rattle.relation_terms.specs.Trees.{Tree, leaf, node, bind, nil, cons, known, count, nth, IsList, IsTerm}
-use Rattle.relation_terms.specs.Meaning.{Meaning, arg_tree}
+use Rattle.relation_terms.specs.Meaning.{Meaning, arg_tree, value_tree}
 use Rattle.relation_terms.specs.Interning.{Sorted}
 use Rattle.relation_semantics.specs.Making.{arg_sort, FitArgs}
 use Rattle.relation_semantics.proofs.Lists.{firsts, snoc, firsts_more, firsts_all}
@@ -48,17 +47,14 @@ pub fits_place : {Key Id Name : Type 0} (m : Meaning Key Id Name) → Sorted m �
 fits_place m s x z ts i k e same = subst₂ (λ a t. IsTerm a t) (sym same) e (arg_is m s x k)
 
 -- A value of a type, taken apart and put together with other branches.
-abbrev pub value_of : Tree → Tree → Tree
-value_of t v = node value (cons (node value_type (cons t nil)) (cons v nil))
-
-pub value_type_known : (c t v : Tree) → c ≡ value_of t v → IsTrue (known c) → IsTrue (known t)
+pub value_type_known : (c t v : Tree) → c ≡ value_tree t v → IsTrue (known c) → IsTrue (known t)
 value_type_known c t v e k = (and_parts (known t) true (and_parts (known t && true) (known v && true)
     (subst (λ z. IsTrue (known z)) e k)).0).0
 
-pub value_tree_known : (c t v : Tree) → c ≡ value_of t v → IsTrue (known c) → IsTrue (known v)
+pub value_tree_known : (c t v : Tree) → c ≡ value_tree t v → IsTrue (known c) → IsTrue (known v)
 value_tree_known c t v e k = (and_parts (known v) true (and_parts (known t && true) (known v && true)
     (subst (λ z. IsTrue (known z)) e k)).1).0
 
-pub value_known : (t v : Tree) → IsTrue (known t) → IsTrue (known v) → IsTrue (known (value_of t v))
+pub value_known : (t v : Tree) → IsTrue (known t) → IsTrue (known v) → IsTrue (known (value_tree t v))
 value_known t v k l = and_from (known t && true) (known v && true) (and_from (known t) true k refl)
     (and_from (known v) true l refl)

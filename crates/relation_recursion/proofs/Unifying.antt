@@ -8,7 +8,7 @@ use Rattle.relation_terms.specs.declared.terms.keys.TyKey.{TyKey}
 use Rattle.relation_folds.specs.declared.error.TypeError.{TypeError}
 use Rattle.relation_semantics.specs.Errors.{AreAlikeLeaves, FormError, mutability, pointer_mutability, tuple_size, empty_tuple, as_many, alias_arguments, sorts}
 use Rattle.relation_recursion.proofs.Compared.{list_of, parts_list, value_shape, no_value_variable, ConstsAlike, of_forms_alike, alike_heads}
-use Rattle.relation_recursion.proofs.MadeAnew.{value_of}
+use Rattle.relation_terms.specs.Meaning.{value_tree}
 use Rattle.relation_semantics.specs.Errors.{ConstFormError, const_mismatch, operations}
 use Rattle.relation_terms.specs.declared.terms.keys.ConstKey.{ConstKey}
 use Rattle.relation_terms.specs.Heads.{Admits, region_var}
@@ -310,7 +310,7 @@ types_unify a b f g o (parameters {x} {y} d e p) s =
     ((λ z. refl), (λ z. ap (λ z. leaf (atom z)) (erased_parameters x y i.1 j.1 p)))
 
 -- Of constants the same.
-values_unify : (s : Assign) (t u v w : Tree) → Unifies s (value_of t v) (value_of u w) ↔ Unifies s v w
+values_unify : (s : Assign) (t u v w : Tree) → Unifies s (value_tree t v) (value_tree u w) ↔ Unifies s v w
 values_unify s t u v w = ((λ e. cc), λ e. ap (λ z. node value (cons (node value_type nil) (cons z nil))) e)
 
 branches_unify : (s : Assign) (v w : Tree) → AreOfOneValue v w → Unifies s v w ↔

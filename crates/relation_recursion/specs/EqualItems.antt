@@ -27,6 +27,7 @@ use Rattle.relation_terms.specs.Meaning.{Meaning, alias_kind, alias_id}
 use Rattle.relation_terms.specs.Predicates.{alias_term_kind, alias_term_id, alias_term_tree, trait_ref_tree}
 use Rattle.relation_terms.specs.Predicates.{clause_kind_tree}
 use Rattle.relation_terms.specs.Interning.{AreEqualAsTrees, AreEqualAsNumbers}
+use Rattle.relation_terms.proofs.Same.{polarity_eq, polarity_same}
 
 -- Two kinds of aliases, by the equality of ids.
 abbrev pub kinds_by : {Id : Type 0} → (Id → Id → Bool) → AliasTermKind Id → AliasTermKind Id → Bool
@@ -109,14 +110,6 @@ ty_kinds_found ids (Inherent d) (Inherent e) k h = h
 ty_kinds_found ids (Opaque d) (Opaque e) k h = h
 ty_kinds_found ids (Free d) (Free e) k h = h
 ty_kinds_found ids a b k h = absurd (cc)
-
-abbrev polarity_eq : PredicatePolarity → PredicatePolarity → Bool
-polarity_eq = polarity_impl.ghosts.eq
-
-polarity_same : (p q : PredicatePolarity) → IsTrue (polarity_eq p q) → p ≡ q
-polarity_same Positive Positive h = refl
-polarity_same Negative Negative h = refl
-polarity_same _ _ h = absurd (false≢true h)
 
 polarity_found : (p q : PredicatePolarity) → p ≡ q → IsTrue (polarity_eq p q)
 polarity_found Positive Positive e = refl

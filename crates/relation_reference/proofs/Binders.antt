@@ -13,16 +13,16 @@ use Rattle.relation_terms.proofs.Stays.{stays_arg}
 use Rattle.relation_terms.proofs.Members.{known_with_last}
 use Rattle.relation_folds.specs.Shifts.{opened, knows_all}
 use Rattle.relation_folds.specs.Visits.{bound_var_escapes}
-use Rattle.relation_semantics.specs.Relation.{AvoidsAll}
 use Rattle.relation_semantics.specs.Steps.{ChangesNothing, ArePlaceholders, MakesVariable}
 use Rattle.relation_semantics.specs.Stores.{Store}
 use Rattle.relation_semantics.specs.Contexts.{Context}
 use Rattle.relation_semantics.specs.ContextCalls.{KeepsRest}
 use Rattle.relation_semantics.specs.Bound.{BindsByList}
 use Rattle.relation_semantics.specs.Binders.{kinds_in, variable_kind, MakesEach, makes_none, makes_next, MakesFirst, bound_by}
-use Rattle.relation_semantics.specs.Binders.{EntersAs, InstantiatesAs, EntersBinder, InstantiatesWithInfer}
+use Rattle.relation_semantics.specs.Binders.{placeholders_from, EntersAs, InstantiatesAs, EntersBinder, InstantiatesWithInfer}
+use Rattle.relation_semantics.proofs.Values.{placeholders_are}
 use Rattle.relation_semantics.proofs.Opened.{opened_inst, placeholders_stand, variables_stand, none_escapes, some_escapes}
-use Rattle.relation_reference.specs.Opened.{placeholders_from, MakesOne}
+use Rattle.relation_reference.specs.Opened.{MakesOne}
 use Rattle.relation_semantics.proofs.Opening.{same_changes}
 
 -- A binder binds what its list says.
@@ -59,16 +59,6 @@ placeholders_next u i j ks k ps qs p e at h more is =
     let number : i ≡ 0 + length (take i ks) = omega (arith, long) in
     more ∙ ap₂ (λ z y. z ++ y ∷ []) h (is ∙ ap (λ n. leaf (placeholder k u n)) number)
     ∙ sym (placeholders_more u 0 (take i ks) k) ∙ sym (ap (placeholders_from u 0) (take_next ks i j k e at))
-
--- They are pairwise different.
-avoids_later : (j : BoundKind) (u m n : ℕ) (ks : List BoundKind) → m < n →
-    AvoidsAll (leaf (placeholder j u m)) (placeholders_from u n ks)
-avoids_later j u m n [] h = tt
-avoids_later j u m n (k ∷ ks) h = (λ e. let q : n ≡ m = cc in omega arith, avoids_later j u m (suc n) ks (omega arith))
-
-placeholders_are : (u n : ℕ) (ks : List BoundKind) → ArePlaceholders u ks (placeholders_from u n ks)
-placeholders_are u n [] = tt
-placeholders_are u n (k ∷ ks) = ((n, refl), avoids_later k u n (suc n) ks (omega arith), placeholders_are u (suc n) ks)
 
 module _ {Key Id Name : Type 0} {m n : Meaning Key Id Name} (e : Extends m n) where
   pub args_stay : (xs : List (GenericArgKind Key)) → IsTrue (known (list_tree (arg_tree m) xs)) →

@@ -1,6 +1,6 @@
 -- What is put for what a binder binds.
-use Rattle.std.specs.Prelude.{◌≡◌, ℕ, suc, List, [], ◌∷◌}
-use Rattle.relation_terms.specs.Heads.{BoundKind, VarKind, placeholder, variable}
+use Rattle.std.specs.Prelude.{◌≡◌, ℕ}
+use Rattle.relation_terms.specs.Heads.{VarKind, variable}
 use Rattle.relation_terms.specs.declared.terms.binder.Binder.{Binder}
 use Rattle.relation_terms.specs.Trees.{Tree, leaf}
 use Rattle.relation_terms.specs.Meaning.{Meaning}
@@ -8,11 +8,6 @@ use Rattle.relation_semantics.specs.Binders.{binder_tree}
 use Rattle.relation_semantics.specs.Contexts.{Context}
 use Rattle.relation_semantics.specs.Steps.{MakesVariable}
 use Rattle.relation_semantics.specs.Stores.{Store, IsTermIn}
-
--- Placeholders of a universe for the variables of a list, numbered by their places from `n` on.
-abbrev pub placeholders_from : ℕ → ℕ → List BoundKind → List Tree
-placeholders_from u n [] = []
-placeholders_from u n (k ∷ ks) = leaf (placeholder k u n) ∷ placeholders_from u (suc n) ks
 
 -- A new variable of a kind was made in the current universe.
 abbrev pub MakesOne : Store → Store → VarKind → Tree → Type 0

@@ -18,10 +18,6 @@ use Rattle.relation_regions.proofs.Columns.{length_more}
 use Rattle.relation_regions.proofs.Found.{placed_kept}
 use Rattle.relation_regions.proofs.Paths.{found_reaches}
 
--- No answer is both.
-pub both_ways : {b : Bool} → b ≡ true → b ≡ false → ⊥
-both_ways p q = absurd cc
-
 -- Whether something stands at a place, as it is read there.
 pub some_as_read : (xs : List (Option ℕ)) (x : ℕ) (r : Option ℕ) (b : Bool) → x < length xs → r ≡ get_or xs x r →
     is_some r ≡ b → is_some (get_or xs x None) ≡ b

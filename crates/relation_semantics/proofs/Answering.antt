@@ -195,8 +195,3 @@ module _ {Key Id Name : Type 0} (M : Manners) where
   may_const_over q v (node (expression k) ts) us a = may_form q (expression k) v ts us tt a
   may_const_over q v (node value (cons t (cons (node value_branch vs) nil))) us a = may_value q v t vs us a
   may_const_over q v c us a = may_itself M q v c
-
-pub if_ok_both : {X E : Type 0} (P Q R : X → Type 0) (res : Result X E) → ((x : X) → P x → Q x → R x) → IfOk res P →
-    IfOk res Q → IfOk res R
-if_ok_both P Q R (Ok x) f p q = f x p q
-if_ok_both P Q R (Err e) f p q = tt

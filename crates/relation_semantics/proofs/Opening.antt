@@ -11,9 +11,10 @@ use Rattle.relation_semantics.specs.Stores.{Store, unbound, entry_term, bound_te
 use Rattle.relation_semantics.specs.Goals.{Goal, Holds, GoalInContext, MakesOneTree}
 use Rattle.relation_semantics.specs.Steps.{IsLater, AgreeOn, HasExtension, AllNamable, ArePlaceholders, ChangesNothing, EntersForall, LeavesBody, EntersUniverse, InstantiatesBinder, Instantiates}
 use Rattle.relation_semantics.specs.Outcomes.{StepsTo}
+use Rattle.relation_semantics.specs.Binders.{placeholders_from}
 use Rattle.relation_semantics.specs.StepLaws.{InstantiatingSteps, OpeningSteps, OneRoundRelates, TwoRoundsRelate, UnusedBindersRelate}
 use Rattle.relation_semantics.proofs.Trees.{apply-inst, inst_within, StaysIn}
-use Rattle.relation_semantics.proofs.Values.{value_namable, stays_in, stays_apply, variables_fit, fresh_later, placeholders_stay, placeholders_fit, placeholders_namable, some_values, some_values_fit, some_values_namable, some_placeholders, some_are_placeholders, same_value, in_context}
+use Rattle.relation_semantics.proofs.Values.{value_namable, stays_in, stays_apply, variables_fit, fresh_later, placeholders_stay, placeholders_fit, placeholders_namable, some_values, some_values_fit, some_values_namable, placeholders_are, same_value, in_context}
 use Rattle.relation_semantics.proofs.Classes.{entry_kept}
 use Rattle.relation_semantics.proofs.Going.{later_itself, later_through}
 use Rattle.relation_semantics.proofs.Composing.{extends_through, goals_both, first_goals, all_goals, values_still}
@@ -117,10 +118,10 @@ record IsEntered (before middle : Store) (ls : List BoundKind) (b b' : Tree) : T
 left_as_it_is : (before middle : Store) (ls : List BoundKind) (b b' : Tree) → LeavesBody before middle b b' → IsEntered before middle ls b b'
 left_as_it_is before middle ls b b' h = record {
   universe = suc before.universe;
-  placeholders = some_placeholders (suc before.universe) 0 ls;
-  are_placeholders = some_are_placeholders (suc before.universe) 0 ls;
+  placeholders = placeholders_from (suc before.universe) 0 ls;
+  are_placeholders = placeholders_are (suc before.universe) 0 ls;
   above = omega arith;
-  shown = λ s i. stays s i (some_placeholders (suc before.universe) 0 ls);
+  shown = λ s i. stays s i (placeholders_from (suc before.universe) 0 ls);
   values = some_values ls;
   fit = some_values_fit ls;
   namable = some_values_namable middle.universe ls;
@@ -240,10 +241,10 @@ module _ (c : Items) (w : Interpretation) (e : Tree) (ks ls : List BoundKind) (a
   seen v ts us r = subst₂ (Rel c w e (at v)) (sym (inst_within ts 0 a wa)) (sym (inst_within us 0 b wb)) r
 
   unused_second : (v : Variance) → Rel c w e (at v) a b → Rel c w e (second_opened ks ls v) a b
-  unused_second v r = open_second (some_values ks) (some_placeholders (suc u) 0 ls) (some_values_fit ks) (fresh_later u (suc u) ls (some_placeholders (suc u) 0 ls) a b (omega arith) (some_are_placeholders (suc u) 0 ls) na nb) (seen v _ _ r)
+  unused_second v r = open_second (some_values ks) (placeholders_from (suc u) 0 ls) (some_values_fit ks) (fresh_later u (suc u) ls (placeholders_from (suc u) 0 ls) a b (omega arith) (placeholders_are (suc u) 0 ls) na nb) (seen v _ _ r)
 
   unused_first : (v : Variance) → Rel c w e (at v) a b → Rel c w e (first_opened ks ls v) a b
-  unused_first v r = open_first (some_placeholders (suc u) 0 ks) (some_values ls) (fresh_later u (suc u) ks (some_placeholders (suc u) 0 ks) a b (omega arith) (some_are_placeholders (suc u) 0 ks) na nb) (some_values_fit ls) (seen v _ _ r)
+  unused_first v r = open_first (placeholders_from (suc u) 0 ks) (some_values ls) (fresh_later u (suc u) ks (placeholders_from (suc u) 0 ks) a b (omega arith) (placeholders_are (suc u) 0 ks) na nb) (some_values_fit ls) (seen v _ _ r)
 
   unused_rule : (v : Variance) → v ≢ Bivariant → Rel c w e (at v) a b → Rel c w e (at v) (bind ks a) (bind ls b)
   unused_rule Covariant n r = covariant_binders refl (unused_second Covariant r)

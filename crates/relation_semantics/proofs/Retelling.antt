@@ -40,7 +40,8 @@ use Rattle.relation_semantics.proofs.Shrinking.{first_order_before}
 use Rattle.relation_semantics.proofs.Full.{full_itself}
 use Rattle.relation_semantics.proofs.AgreeingBefore.{anything_agreed}
 use Rattle.relation_semantics.proofs.Beginning.{begins_grown, agrees_now}
-use Rattle.relation_semantics.proofs.Answering.{same_environment, same_settings, may_itself, if_ok_both}
+use Rattle.relation_semantics.proofs.Answering.{same_environment, same_settings, may_itself}
+use Rattle.relation_folds.proofs.Folding.{if_ok_both}
 use Rattle.relation_semantics.specs.OneUniverse.{KeepsUniverseOf, BindsNoMore}
 use Rattle.relation_semantics.proofs.OneUniverse.{keeps_binds, leads_itself}
 use Rattle.relation_semantics.proofs.Erased.{xform_invariant}
@@ -260,8 +261,8 @@ module _ {Key Id Name : Type 0} where
         IfOk res (λ z. IsTrue (known (answer z))) → IfOk res (λ z. answer z ≡ made) →
         RelatedAs x M r p (at v) a b answer res
     form_made tree t f res only formed made value same sure means = made_or_not tree t f res only
-        (if_ok_both (λ z. IsTrue (known (answer z))) (λ z. answer z ≡ made)
-        (λ z. MayAnswer M q v a (answer z) × IsTrue (known (answer z))) res
+        (if_ok_both {P = λ z. IsTrue (known (answer z))} {Q = λ z. answer z ≡ made}
+        {R = λ z. MayAnswer M q v a (answer z) × IsTrue (known (answer z))} res
         (λ z k is. (subst (MayAnswer M q v a) (sym (is ∙ same)) value, k)) sure means)
 
   -- Memory ran out.

@@ -2,6 +2,7 @@
 use Rattle.std.proofs.Common.{◌≡◌, ◌≢◌, ℕ, zero, suc, ◌<◌, refl, sym, ap, ap₂, arith, inl, inr, subst, List, [], ◌∷◌, map}
 use Rattle.relation_terms.specs.Heads.{region_kind, type_kind, const_kind, BoundKind, bound_kind, bound_sort, VarKind, var_sort, Leaf, bool_type, static_region, const_param, atom, variable, bound, placeholder, unknown}
 use Rattle.relation_terms.specs.Trees.{Tree, leaf, node, bind, nil, cons, Assign, assigned, apply, Leaves, Occurs, IsTerm, IsList, nth}
+use Rattle.relation_semantics.specs.Binders.{placeholders_from}
 use Rattle.relation_semantics.specs.Relation.{StaysWithin, IsValue, FitKinds, Avoids, AvoidsAll, Fresh}
 use Rattle.relation_semantics.specs.Stores.{Store, universe_of, IsMade, IsNamable, IsAssignment, IsInScope, IsMadeLeaf, InContext}
 use Rattle.relation_semantics.specs.Steps.{AgreeOn, AllNamable, AreNewVariables, ArePlaceholders}
@@ -134,20 +135,15 @@ unfolding some_values
 some_values_namable u [] = tt
 some_values_namable u (k ∷ ks) = (some_value_namable u k, some_values_namable u ks)
 
--- Some placeholders of a universe, numbered from `n` on.
-pub some_placeholders : ℕ → ℕ → List BoundKind → List Tree
-some_placeholders u n [] = []
-some_placeholders u n (k ∷ ks) = leaf (placeholder k u n) ∷ some_placeholders u (suc n) ks
+-- Placeholders of one universe are pairwise different.
+avoids_later : (j : BoundKind) (u m n : ℕ) (ks : List BoundKind) → m < n →
+    AvoidsAll (leaf (placeholder j u m)) (placeholders_from u n ks)
+avoids_later j u m n [] h = tt
+avoids_later j u m n (k ∷ ks) h = (λ e. let q : n ≡ m = cc in omega arith, avoids_later j u m (suc n) ks (omega arith))
 
-later_placeholders : (j : BoundKind) (u m n : ℕ) (ks : List BoundKind) → m < n → AvoidsAll (leaf (placeholder j u m)) (some_placeholders u n ks)
-unfolding some_placeholders
-later_placeholders j u m n [] h = tt
-later_placeholders j u m n (k ∷ ks) h = (λ e. let q : n ≡ m = cc in omega arith, later_placeholders j u m (suc n) ks (omega arith))
-
-pub some_are_placeholders : (u n : ℕ) (ks : List BoundKind) → ArePlaceholders u ks (some_placeholders u n ks)
-unfolding some_placeholders
-some_are_placeholders u n [] = tt
-some_are_placeholders u n (k ∷ ks) = ((n, refl), later_placeholders k u n (suc n) ks (omega arith), some_are_placeholders u (suc n) ks)
+pub placeholders_are : (u n : ℕ) (ks : List BoundKind) → ArePlaceholders u ks (placeholders_from u n ks)
+placeholders_are u n [] = tt
+placeholders_are u n (k ∷ ks) = ((n, refl), avoids_later k u n (suc n) ks (omega arith), placeholders_are u (suc n) ks)
 
 -- Assignments that agree give a term of the context one value.
 agree_leaf : (st : Store) (s s' : Assign) → AgreeOn st s s' → (l : Leaf) → IsMadeLeaf st l → assigned s l ≡ assigned s' l

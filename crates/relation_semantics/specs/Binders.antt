@@ -1,8 +1,8 @@
 -- Opening binders in a context: placeholders or new variables put for what a binder binds.
-use Rattle.std.specs.Prelude.{◌≡◌, ℕ, List, [], ◌∷◌, ◌++◌, take, Option, Some, None, IsTrue, Result, Ok, Err}
+use Rattle.std.specs.Prelude.{◌≡◌, ℕ, suc, List, [], ◌∷◌, ◌++◌, take, Option, Some, None, IsTrue, Result, Ok, Err}
 use Rattle.relation_terms.specs.declared.terms.binder.Binder.{Binder}
 use Rattle.relation_terms.specs.Heads.{type_kind, region_kind, const_kind, BoundKind, bound_kind}
-use Rattle.relation_terms.specs.Heads.{VarKind, type_var, const_var, region_var, variable}
+use Rattle.relation_terms.specs.Heads.{VarKind, type_var, const_var, region_var, variable, placeholder}
 use Rattle.relation_terms.specs.Trees.{Tree, leaf, bind, inst, known}
 use Rattle.relation_terms.specs.Meaning.{Meaning, under}
 use Rattle.relation_semantics.specs.Contexts.{Context}
@@ -19,6 +19,11 @@ abbrev pub variable_kind : BoundKind → VarKind
 variable_kind (bound_kind type_kind n) = type_var
 variable_kind (bound_kind region_kind n) = region_var
 variable_kind (bound_kind const_kind n) = const_var
+
+-- Placeholders of a universe for the variables of a list, numbered by their places from `n` on.
+abbrev pub placeholders_from : ℕ → ℕ → List BoundKind → List Tree
+placeholders_from u n [] = []
+placeholders_from u n (k ∷ ks) = leaf (placeholder k u n) ∷ placeholders_from u (suc n) ks
 
 -- Variables of a universe were made one after another, one for each place of a binder's list in its order, and for no
 -- other.

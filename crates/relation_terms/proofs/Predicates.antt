@@ -33,10 +33,10 @@ use Rattle.relation_terms.proofs.Stays.{stays_term}
 use Rattle.relation_terms.proofs.Once.{Injective, term_once}
 
 -- One known part, and two.
-one_known : (t : Tree) → IsTrue (known t && true) → IsTrue (known t)
+pub one_known : (t : Tree) → IsTrue (known (cons t nil)) → IsTrue (known t)
 one_known t k = (and_parts (known t) true k).0
 
-two_known : (t u : Tree) → IsTrue (known t && (known u && true)) → IsTrue (known t) × IsTrue (known u)
+pub two_known : (t u : Tree) → IsTrue (known (cons t (cons u nil))) → IsTrue (known t) × IsTrue (known u)
 two_known t u k =
     let p = and_parts (known t) (known u && true) k in
     (p.0, one_known u p.1)

@@ -12,6 +12,8 @@ use Rattle.term_enums.specs.declared.Safety.TheVariants.{Safe, Unsafe}
 use Rattle.term_enums.specs.declared.ExternAbi.{ExternAbi}
 use Rattle.term_enums.specs.declared.ExternAbi.TheVariants.{Rust, C, System}
 use Rattle.term_enums.specs.declared.FnHeader.{FnHeader}
+use Rattle.term_enums.specs.declared.PredicatePolarity.{PredicatePolarity}
+use Rattle.term_enums.specs.declared.PredicatePolarity.TheVariants.{Positive, Negative}
 use Rattle.relation_terms.specs.declared.terms.fn_sig.FnSig.{FnSig}
 use Rattle.relation_terms.specs.declared.terms.keys.TysKey.{TysKey}
 use Rattle.relation_terms.specs.declared.predicate.existential.ExistentialProjection.{ExistentialProjection}
@@ -19,6 +21,7 @@ use Rattle.relation_terms.specs.declared.predicate.existential.ExistentialPredic
 use Rattle.term_enums.specs.contracts.SafetyPartialEq.TheImpl as safety_impl
 use Rattle.term_enums.specs.contracts.ExternAbiPartialEq.TheImpl as abi_impl
 use Rattle.term_enums.specs.contracts.FnHeaderPartialEq.TheImpl as header_impl
+use Rattle.term_enums.specs.contracts.PredicatePolarityPartialEq.TheImpl as polarity_impl
 use Rattle.relation_terms.proofs.Binders.{front_known}
 
 abbrev pub safety_eq : Safety → Safety → Bool
@@ -30,6 +33,9 @@ abi_eq = abi_impl.ghosts.eq
 abbrev pub header_eq : FnHeader → FnHeader → Bool
 header_eq = header_impl.ghosts.eq
 
+abbrev pub polarity_eq : PredicatePolarity → PredicatePolarity → Bool
+polarity_eq = polarity_impl.ghosts.eq
+
 pub bool_same : (a b : Bool) → IsTrue (beq a b) → a ≡ b
 bool_same true true h = refl
 bool_same false false h = refl
@@ -38,6 +44,11 @@ bool_same _ _ h = absurd (false≢true h)
 pub bool_self : (a : Bool) → IsTrue (beq a a)
 bool_self true = refl
 bool_self false = refl
+
+pub polarity_same : (a b : PredicatePolarity) → IsTrue (polarity_eq a b) → a ≡ b
+polarity_same Positive Positive h = refl
+polarity_same Negative Negative h = refl
+polarity_same _ _ h = absurd (false≢true h)
 
 safety_same : (a b : Safety) → IsTrue (safety_eq a b) → a ≡ b
 safety_same Safe Safe h = refl

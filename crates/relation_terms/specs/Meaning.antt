@@ -165,6 +165,10 @@ abbrev pub under : Option (List BoundKind) → Tree → Tree
 under (Some ks) t = bind ks t
 under None t = leaf unknown
 
+-- A value of a type.
+abbrev pub value_tree : Tree → Tree → Tree
+value_tree t v = node value (cons (node value_type (cons t nil)) (cons v nil))
+
 -- The signature of these types and this header.
 abbrev pub sig_of : {Key : Type 0} → FnSigTys Key → FnHeader → FnSig Key
 sig_of tys header = record { inputs_and_output = tys.inputs_and_output; header = header }
@@ -264,7 +268,7 @@ module _ {Key Id Name : Type 0} (m : Meaning Key Id Name) where
   const_tree (ConstBound d b) = bound_const_tree d b
   const_tree (ConstPlaceholder p) = const_placeholder_tree p
   const_tree (Unevaluated u) = node (unevaluated (m.id (u.def).0)) (m.args u.args)
-  const_tree (Value t v) = node value (cons (node value_type (cons (m.ty t) nil)) (cons (m.valtree v) nil))
+  const_tree (Value t v) = value_tree (m.ty t) (m.valtree v)
   const_tree (ConstError e) = leaf (atom const_error)
   const_tree (Expr k a) = node (expression k.0) (m.args a)
 

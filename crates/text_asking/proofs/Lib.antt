@@ -8,7 +8,6 @@ pub mod WalkLemmas
 pub mod OutlivesLemmas
 pub mod AssumeLemmas
 pub mod Universes
-pub mod EnvironmentLemmas
 pub mod CoherenceLemmas
 pub mod ProofLemmas
 pub mod FitLemmas

@@ -12,9 +12,7 @@ use Rattle.relation_terms.specs.Heads.{alias}
 use Rattle.outlives.specs.declared.Component.{Component, Region, Param, Placeholder, UnresolvedInferenceVariable, Alias, EscapingAlias, EscapingAlias', Row_of-Component, end_of-Component, more_of-Component, items-the_row-Component, items_hidden-the_row-Component-0}
 use Rattle.text_asking.specs.Outlives.{KnowsComponent, KnowsInside, KnowsComponents}
 use Rattle.outlives.proofs.Outliving.{each_both}
-
-abbrev Known : Tree → Type 0
-Known t = IsTrue (known t)
+use Rattle.outlives_assumptions.proofs.Assumptions.{Known}
 
 each_either : (b : Bool) (xs ys : List Tree) → EachIs Known xs → EachIs Known ys → EachIs Known (cond b xs ys)
 each_either true xs ys e o = e

@@ -3,7 +3,7 @@ use Rattle.std.proofs.Common.{◌≡◌, ◌≤◌, ℕ, suc, Bool, true, false,
 use Rattle.std.proofs.Common.{List, [], ◌∷◌, ◌++◌, map, length, Option, Some, None, Ok, append-nil}
 use Rattle.std.proofs.Common.{◌<◌, ◌||◌, ◌==◌, ◌+◌, drop, get_or}
 use Rattle.std.proofs.Math.Seq.{drop-cons}
-use Rattle.std.proofs.lemmas.Bool.{and_parts, eq-eqb, eqb-true}
+use Rattle.std.proofs.lemmas.Bool.{and_parts, eq-eqb, eqb-true, false_from_ne_true}
 use Rattle.std.proofs.lemmas.List.{append_assoc, length-append}
 use Rattle.std.specs.List.{list_any}
 use Rattle.relation_terms.specs.Trees.{Tree, known, size, list_tree}
@@ -26,10 +26,6 @@ pub skipped_cx : {I A : Type 0} (b : Bool) (w : Walk I A) → (cond b (record w 
 skipped_cx true w = refl
 skipped_cx false w = refl
 
-no_true : (b : Bool) → (b ≡ true → ⊥) → b ≡ false
-no_true true h = absurd (h refl)
-no_true false h = refl
-
 module _ {I A : Type 0} (ns : List ℕ) (i p : ℕ) (w u z : Walk I A) where
   -- The walk as it is once these have been looked at.
   abbrev looked : List ℕ → Walk I A → Walk I A
@@ -51,7 +47,7 @@ module _ {I A : Type 0} (ns : List ℕ) (i p : ℕ) (w u z : Walk I A) where
       let rest = drop (suc i) ns in
       let one : i + 1 ≡ suc i = omega arith in
       let cut = ap (λ xs. looked xs w) (drop-cons ns i 0 l) in
-      let n = no_true (get_or ns i 0 == p) (λ t. h (eqb-true (get_or ns i 0) p t)) in
+      let n = false_from_ne_true (get_or ns i 0 == p) (λ t. h (eqb-true (get_or ns i 0) p t)) in
       let first = ap (λ b. cond (b || stands_in rest p) (record w { inside = [] }) w) n in
       ap (λ j. looked (drop j ns) u) one ∙ ap (looked rest) e ∙ sym (cut ∙ first) ∙ k
 

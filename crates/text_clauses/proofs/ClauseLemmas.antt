@@ -16,7 +16,8 @@ use Rattle.text_reading.specs.declared.reading.tree.ItemSort.{ItemSort}
 use Rattle.text_terms.specs.Terms.{at}
 use Rattle.text_terms.specs.Built.{AreKnown, AreBuilt}
 use Rattle.text_reading.specs.declared.naming.program.Clause.{Clause}
-use Rattle.text_terms.proofs.BuildingLemmas.{one_known, two_known, ids_stay, names_stay}
+use Rattle.relation_folds.proofs.FieldFolding.{both_known}
+use Rattle.text_terms.proofs.BuildingLemmas.{alone_known, ids_stay, names_stay}
 use Rattle.text_clauses.specs.Clauses.{declared_tree, clause_tree}
 use Rattle.text_clauses.specs.Made.{MakesOne}
 
@@ -27,7 +28,7 @@ module _ {Key Id Name : Type 0} (m : Meaning Key Id Name) (keys : List (Option (
       slice_get keys a ≡ Some (Some x) → t ≡ arg_tree m x → ((ts : List Tree) → node h (cons (at ts a) nil) ≡ tree ts) →
       IsTrue (known (node h (cons t nil))) × ((ts : List Tree) → AreBuilt m ts keys → node h (cons t nil) ≡ tree ts)
   one_made t x a tree e q f = (
-    one_known t (subst (λ u. IsTrue (known u)) (sym q) (sure a x e)),
+    alone_known t (subst (λ u. IsTrue (known u)) (sym q) (sure a x e)),
     λ ts b. ap (λ u. node h (cons u nil)) (q ∙ b a x e) ∙ f ts,
   )
 
@@ -37,7 +38,7 @@ module _ {Key Id Name : Type 0} (m : Meaning Key Id Name) (keys : List (Option (
       IsTrue (known (node h (cons (arg_tree m x) (cons (arg_tree m y) nil)))) ×
       ((ts : List Tree) → AreBuilt m ts keys → node h (cons (arg_tree m x) (cons (arg_tree m y) nil)) ≡ tree ts)
   two_made x y a b tree e q f = (
-    two_known (arg_tree m x) (arg_tree m y) (sure a x e) (sure b y q),
+    both_known (arg_tree m x) (arg_tree m y) (sure a x e) (sure b y q),
     λ ts z. ap₂ (λ u v. node h (cons u (cons v nil))) (z a x e) (z b y q) ∙ f ts,
   )
 

@@ -123,13 +123,3 @@ module _ {I Key Id Name : Type 0} (meaning : I → Meaning Key Id Name) where
         begins = b;
         answers = subst (λ z. Answers meaning z ps v) (is ∙ ap (λ z. record t { mode = z }) modes) goes;
       })
-
--- What follows where a result is one.
-pub if_ok : {T E : Type 0} (P Q : T → Type 0) (r : Result T E) → ((x : T) → P x → Q x) → IfOk r P → IfOk r Q
-if_ok P Q (Ok x) f h = f x h
-if_ok P Q (Err e) f h = h
-
-pub if_ok2 : {T E : Type 0} (P Q R : T → Type 0) (r : Result T E) → ((x : T) → P x → Q x → R x) → IfOk r P → IfOk r Q →
-    IfOk r R
-if_ok2 P Q R (Ok x) f h k = f x h k
-if_ok2 P Q R (Err e) f h k = h

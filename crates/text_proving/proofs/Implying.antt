@@ -13,10 +13,6 @@ use Rattle.relation_elaboration.specs.Pulling.{Elaboration, Pulls, RunsTo, ByClo
 use Rattle.text_proving.specs.Implied.{IsClosure, PullsToEnd}
 use Rattle.text_proving.specs.Made.{KnowsClause, held, rule_giving}
 
-pub if_ok : {T F : Type 0} {P Q : T → Type 0} (r : Result T F) → ((x : T) → P x → Q x) → IfOk r P → IfOk r Q
-if_ok (Ok x) f h = f x h
-if_ok (Err e) f h = tt
-
 -- The rules of clauses that are held, by their trees.
 pub held_trees : {Key Id Name : Type 0} (m : Meaning Key Id Name) (ks : List (ClauseKey Key)) →
     map (held m) ks ≡ map rule_giving (map m.clause ks)

@@ -1,5 +1,5 @@
 -- Keys of terms, and the trees that they mean.
-use Rattle.std.proofs.Common.{◌≡◌, ◌≢◌, cond, IsSome, ℕ, ◌+◌, ◌<◌, ◌&&◌, Bool, true, IsTrue, IfSome, List, [], ◌∷◌, ◌++◌, Option, Some, None, inl, inr, length, map, get_or, take, refl, sym, ◌∙◌, ap, ap₂, subst, arith, length-append, slice_get}
+use Rattle.std.proofs.Common.{◌≡◌, ◌≢◌, cond, IsSome, ℕ, ◌+◌, ◌<◌, ◌&&◌, Bool, true, IsTrue, IfSome, List, [], ◌∷◌, ◌++◌, Option, Some, None, inl, inr, length, map, get_or, take, drop, refl, sym, ◌∙◌, ap, ap₂, subst, arith, length-append, slice_get}
 use Rattle.std.proofs.lemmas.List.{get_or_append_left, take_more, length-take-le}
 use Rattle.std.proofs.lemmas.Option.{slice_get_within, slice_get-map}
 use Rattle.std.specs.Option.{option_map}
@@ -37,18 +37,13 @@ use Rattle.text_terms.specs.Built.{EachKnown, EachBuilt, AreBuilt, AreInnerBuilt
 pub both_true : (a b : Bool) → IsTrue a → IsTrue b → IsTrue (a && b)
 both_true a b h k = ap₂ (λ x y. x && y) h k
 
-rest : {A : Type 0} → List A → List A
-rest [] = []
-rest (x ∷ xs) = xs
-
 -- The members of a list of which each is there.
 module _ {A : Type 0} (f : ℕ → Option (Option A)) where
   first_is : (n : ℕ) (ns : List ℕ) (x : A) (xs : List A) → map f (n ∷ ns) ≡ map (λ key. Some (Some key)) (x ∷ xs) → f n ≡ Some (Some x)
   first_is n ns x xs h = ap (λ l. get_or l 0 (f n)) h
 
   rest_are : (n : ℕ) (ns : List ℕ) (x : A) (xs : List A) → map f (n ∷ ns) ≡ map (λ key. Some (Some key)) (x ∷ xs) → map f ns ≡ map (λ key. Some (Some key)) xs
-  unfolding rest
-  rest_are n ns x xs h = ap rest h
+  rest_are n ns x xs h = ap (drop 1) h
 
 -- Keys of one kind, by the trees that they mean.
 module _ {K : Type 0} (f : K → Tree) (keys : List (Option K)) where
@@ -161,11 +156,8 @@ leaf_is f h names n x e = ap (leaf_of f) (ap (option_map h) e ∙ sym (slice_get
 pub item_is : {D : Type 0} (h : D → ℕ) (ids : List D) (s : ItemSort) (n : ℕ) (d : D) (ts us : Tree) → Some d ≡ slice_get ids n → ts ≡ us → item_tree s (Some (h d)) ts ≡ item_tree s (slice_get (map h ids) n) us
 item_is h ids s n d ts us e p = ap₂ (item_tree s) (ap (option_map h) e ∙ sym (slice_get-map h ids n)) p
 
-pub one_known : (t : Tree) → IsTrue (known t) → IsTrue (known (cons t nil))
-one_known t h = both_true (known t) true h refl
-
-pub two_known : (t u : Tree) → IsTrue (known t) → IsTrue (known u) → IsTrue (known (cons t (cons u nil)))
-two_known t u h k = both_true (known t) (known (cons u nil)) h (one_known u k)
+pub alone_known : (t : Tree) → IsTrue (known t) → IsTrue (known (cons t nil))
+alone_known t h = both_true (known t) true h refl
 
 -- What is made means an equal tree.
 pub tree_as : {Key Id Name : Type 0} (n : Meaning Key Id Name) (t u : Tree) (o : Option (GenericArgKind Key)) → t ≡ u → MakesTree n t o → MakesTree n u o
@@ -310,6 +302,6 @@ kinds_stay e (v ∷ vs) = ap₂ (λ k ks. k ∷ ks) (kind_stays e v) (kinds_stay
 pub signature_known : (o : Option (List BoundKind)) (h : FnHeader) (ts : Tree) → IsSome o → IsTrue (known (front ts)) →
     IsTrue (known (fn_ptr_tree h o ts))
 signature_known (Some ks) h ts i k =
-    let types = both_true (known (front ts)) (known (cons (last ts) nil)) k (one_known (last ts) (last_known ts k)) in
+    let types = both_true (known (front ts)) (known (cons (last ts) nil)) k (alone_known (last ts) (last_known ts k)) in
     both_true (known (front ts) && known (cons (last ts) nil)) true types refl
 signature_known None h ts i k = absurd cc

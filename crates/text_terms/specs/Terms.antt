@@ -5,14 +5,14 @@ use Rattle.relation_terms.specs.Heads.{type_var, region_var, bool_type, char_typ
 use Rattle.relation_terms.specs.Heads.{uint_type, float_type, foreign, type_param, static_region, early_region}
 use Rattle.relation_terms.specs.Heads.{const_param, value_leaf, adt, fn_def, closure, coroutine_closure, coroutine}
 use Rattle.relation_terms.specs.Heads.{coroutine_witness}
-use Rattle.relation_terms.specs.Heads.{array, slice, tuple, raw_ptr, ref, expression, value, value_type, value_branch}
+use Rattle.relation_terms.specs.Heads.{array, slice, tuple, raw_ptr, ref, expression, value_branch}
 use Rattle.relation_terms.specs.Heads.{region_kind, int_var, float_var, const_var, type_error, const_error}
 use Rattle.relation_terms.specs.Heads.{pattern_type, range_pattern, or_pattern, not_null_pattern}
 use Rattle.relation_terms.specs.Heads.{BoundKind, bound, fn_ptr, unsafe_binder, signature, inputs, Head, dynamic, object}
 use Rattle.relation_terms.specs.Heads.{existential_trait, existential_projection, existential_auto}
 use Rattle.relation_terms.specs.Heads.{alias, unevaluated, projection_alias, inherent_alias, opaque_alias, free_alias}
 use Rattle.relation_terms.specs.Trees.{Tree, leaf, node, nil, cons, list_tree, front, last}
-use Rattle.relation_terms.specs.Meaning.{under}
+use Rattle.relation_terms.specs.Meaning.{under, value_tree}
 use Rattle.term_enums.specs.declared.FnHeader.{FnHeader}
 use Rattle.text_reading.specs.declared.reading.tree.ItemSort.{ItemSort}
 use Rattle.text_reading.specs.declared.reading.tree.ItemSort.TheVariants as sort
@@ -60,10 +60,6 @@ head_of f (Some d) ts = node (f d) ts
 -- A trait object over its predicates and its region.
 abbrev pub object_tree : Tree → Tree → Tree
 object_tree ps r = node dynamic (cons (node object ps) (cons r nil))
-
--- A value of a type.
-abbrev pub value_tree : Tree → Tree → Tree
-value_tree t v = node value (cons (node value_type (cons t nil)) (cons v nil))
 
 -- The kind of a bound variable; those of a list of such, if each is one.
 abbrev pub variable_of : Tree → Option BoundKind

@@ -1,6 +1,5 @@
 -- What a visitor goes over that enters only what is fixed.
 use Rattle.std.proofs.Common.{◌≡◌, ◌∙◌, ℕ, Bool, false, true, cond, refl, sym, ap, List, Option, Some, None}
-use Rattle.std.specs.declared.ops.ControlFlow.TheVariants.{Continue, Break}
 use Rattle.relation_terms.specs.Heads.{type_var, int_var, float_var, const_var, region_var}
 use Rattle.relation_terms.specs.Heads.{BoundKind, Leaf, variable, bound, placeholder, atom, unknown, Atom, bool_type, char_type}
 use Rattle.relation_terms.specs.Heads.{str_type, never_type, type_error, int_type, uint_type, float_type, foreign}
@@ -8,8 +7,6 @@ use Rattle.relation_terms.specs.Heads.{fresh_type, fresh_int, fresh_float, type_
 use Rattle.relation_terms.specs.Heads.{const_error, fresh_const, const_param, value_leaf, not_null_pattern}
 use Rattle.relation_terms.specs.Heads.{existential_auto, unstable_feature, ambiguous}
 use Rattle.relation_terms.specs.Trees.{Tree, leaf, node, bind, nil, cons, Leaves}
-use Rattle.relation_terms.specs.Parts.{parts_of}
-use Rattle.relation_terms.specs.Orders.{Order, in_turn, first_last, behind, in_order, order_of}
 use Rattle.relation_terms.specs.declared.terms.ty_kind.TyKind.{TyKind}
 use Rattle.relation_terms.specs.declared.terms.ty_kind.TyKind.TheVariants.{Infer, Param}
 use Rattle.relation_terms.specs.declared.terms.ty_kind.InferTy.{InferTy}
@@ -24,9 +21,9 @@ use Rattle.relation_terms.specs.declared.terms.const_kind.ConstKind.TheVariants.
 use Rattle.relation_terms.specs.declared.terms.const_kind.InferConst.{InferConst}
 use Rattle.relation_terms.specs.declared.terms.const_kind.InferConst.TheVariants.{Var, Fresh}
 use Rattle.relation_terms.specs.declared.terms.const_kind.ParamConst.{ParamConst}
-use Rattle.relation_folds.specs.declared.visit.Visit.TheVariants.{Enter, Skip, Stop}
-use Rattle.relation_folds.specs.Visits.{is_visited, Flow, Walks, entered, skipped, stopped}
-use Rattle.relation_folds.specs.Visits.{passed_leaf, passed, in_binder, no_part, last_part, next_part}
+use Rattle.relation_folds.specs.declared.visit.Visit.TheVariants.{Enter, Stop}
+use Rattle.relation_folds.specs.Visits.{is_visited, Flow, Walks}
+use Rattle.relation_folds.proofs.Testing.{WentOn, walked_all}
 use Rattle.fast_reject.specs.Instances.{IsNoVariable, IsNamed, AgreeOnNames}
 use Rattle.relation_semantics.proofs.Trees.{Leaves_map}
 use Rattle.relation_terms.specs.Meaning.{Meaning, under, infer_tree, infer_const_tree, kind_tree, region_tree, const_tree}
@@ -69,60 +66,10 @@ passed_fixed (placeholder k u n) e = refl
 passed_fixed (atom x) e = passed_atom x e
 passed_fixed unknown e = refl
 
--- A list in any order has the same leaves.
-fixed_behind : (t us : Tree) → Leaves IsFixedLeaf (behind t us) → Leaves IsFixedLeaf (cons t us)
-fixed_behind t (cons u us) h = let r = fixed_behind t us h.1 in (r.0, (h.0, r.1))
-fixed_behind t (leaf l) h = h
-fixed_behind t (node g ts) h = h
-fixed_behind t (bind ks u) h = h
-fixed_behind t nil h = h
-
-fixed_ordered : (o : Order) (ts : Tree) → Leaves IsFixedLeaf (in_order o ts) → Leaves IsFixedLeaf ts
-fixed_ordered first_last (cons t ts) h = fixed_behind t ts h
-fixed_ordered first_last (leaf l) h = h
-fixed_ordered first_last (node g ts) h = h
-fixed_ordered first_last (bind ks u) h = h
-fixed_ordered first_last nil h = h
-fixed_ordered in_turn ts h = h
-
--- A tree that is fixed itself, and in its parts.
-fixed_parts : (t : Tree) → is_visited t ≡ true → is_fixed t ≡ true → Leaves IsFixedLeaf (parts_of t) → Leaves IsFixedLeaf t
-fixed_parts (leaf l) v h p = h
-fixed_parts (node g ts) v h p = p
-fixed_parts (bind ks t) v h p = p.0
-fixed_parts nil v h p = tt
-fixed_parts (cons t ts) v h p = absurd (cc)
-
--- What is entered is fixed itself, and nothing is skipped.
-entered_at : (b : Bool) → Enter ≡ cond b Enter Stop → b ≡ true
-entered_at true e = refl
-entered_at false e = absurd (cc)
-
-never_skipped : (b : Bool) → Skip ≡ cond b Enter Stop → ⊥
-never_skipped true e = cc
-never_skipped false e = cc
-
--- The visit went on.
-abbrev pub WentOn : Flow → Type 0
-WentOn (Continue x) = Unit {0}
-WentOn (Break x) = ⊥
-
 -- What such a visitor has gone over to the end is fixed.
-pub walked_fixed : {V : Type 0} (d : ℕ) (v w : V) (t : Tree) (r : Flow) → Walks (λ v d t w a. EntersFixed t a) d v t w r →
-    WentOn r → Leaves IsFixedLeaf t
-walked_fixed d v x t r (entered {w = w} i e o) g =
-    fixed_parts t i (entered_at (is_fixed t) e) (walked_fixed d w x (parts_of t) r o g)
-walked_fixed d v w t r (skipped i e) g = absurd (never_skipped (is_fixed t) e)
-walked_fixed d v w t r (stopped i e) g = absurd g
-walked_fixed d v w (leaf l) r (passed_leaf i) g = passed_fixed l i
-walked_fixed d v w (node h ts) r (passed i o) g =
-    let o' = order_of (node h ts) in
-    fixed_ordered o' ts (walked_fixed d v w (in_order o' ts) r o g)
-walked_fixed d v w (bind ks t) r (in_binder o) g = walked_fixed _ v w t r o g
-walked_fixed d v w nil r no_part g = tt
-walked_fixed d v w (cons t ts) r (last_part o) g = absurd g
-walked_fixed d v x (cons t ts) r (next_part {w = w} o n) g =
-    (walked_fixed d v w t (Continue tt) o tt, walked_fixed d w x ts r n g)
+pub walked_fixed : {V : Type 0} (d : ℕ) (v w : V) (t : Tree) (r : Flow) →
+    Walks (λ v d t w a. EntersFixed t a) d v t w r → WentOn r → Leaves IsFixedLeaf t
+walked_fixed d v w t r o g = walked_all IsFixedLeaf is_fixed (λ l e. e) passed_fixed d v w t r o g
 
 -- No inference variable stands in what is fixed.
 no_variable : (l : Leaf) → IsFixedLeaf l → IsNoVariable l

@@ -6,9 +6,10 @@ ghost use Rattle.relation_terms.specs.Meaning.{Extends, arg_tree, bound_kind_of}
 ghost use Rattle.relation_semantics.specs.ContextCalls.{KeepsRest};
 ghost use Rattle.relation_semantics.specs.Bound.{BindsByList};
 ghost use Rattle.relation_semantics.specs.Binders.{kinds_in, variable_kind, MakesEach, binder_tree};
+ghost use Rattle.relation_semantics.specs.Binders.{placeholders_from};
 ghost use Rattle.variable_tables.specs.Tables.{IsLawful};
 ghost use Rattle.relation_reference.specs.RefCtxt.{store_in, context_in};
-ghost use Rattle.relation_reference.specs.Opened.{placeholders_from, MakesOne};
+ghost use Rattle.relation_reference.specs.Opened.{MakesOne};
 ghost use Rattle.relation_reference.specs.Changes.{MakesFirstNow, EntersBody, InstantiatesBody};
 
 use crate::context::RefCtxt;

@@ -2,8 +2,9 @@
 ghost use Rattle.std.specs.Prelude.{◌≡◌, ℕ, List, Some, IsTrue, IfSome, map, slice_get};
 ghost use Rattle.relation_terms.specs.Heads.{tuple, expression, value_branch};
 ghost use Rattle.relation_terms.specs.Trees.{Tree, known, node, list_tree};
-ghost use Rattle.relation_terms.specs.Meaning.{Extends, arg_tree, kind_tree, region_tree, const_tree, valtree_tree};
-ghost use Rattle.text_terms.specs.Terms.{value_tree, text_term_tree};
+ghost use Rattle.relation_terms.specs.Meaning.{Extends, arg_tree, kind_tree, region_tree, const_tree};
+ghost use Rattle.relation_terms.specs.Meaning.{valtree_tree, value_tree};
+ghost use Rattle.text_terms.specs.Terms.{text_term_tree};
 ghost use Rattle.text_terms.specs.Built.{AreKnown, AreInnerKnown, Makes, MakesKey, MakesPart, MakesTree};
 ghost use Rattle.text_terms.specs.Built.{IsFormOf, IsRegionOf, IsConstOf};
 

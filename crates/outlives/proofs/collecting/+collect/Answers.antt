@@ -22,7 +22,8 @@ use Rattle.outlives.specs.declared.Component.{EscapingAlias}
 use Rattle.relation_folds.proofs.Arguments.{arg_same}
 use Rattle.outlives.proofs.Choosing.{member_is, member_in, has_members, each_chosen, rest_count}
 use Rattle.outlives.proofs.Components.{part_has, infer_is, form_parts}
-use Rattle.outlives.proofs.Meeting.{ok_any, ok_never, ok_map, ok_both, next_place, part_settled}
+use Rattle.relation_folds.proofs.Folding.{on_ok}
+use Rattle.outlives.proofs.Meeting.{ok_never, ok_map, ok_both, next_place, part_settled}
 use Rattle.outlives.proofs.Meeting.{part_meets, part_had, meets_on}
 use Rattle.outlives.proofs.Outliving.{in_left, in_right, adds_none, adds_after, adds_within, adds_as, has_as, has_both}
 use Rattle.outlives.proofs.Outliving.{has_grown, added_some, added_all, stands_escaping, meets_none, meets_after}
@@ -374,7 +375,7 @@ pub collect_part-returns-in-Region-clause-meets : goal.collect_part-returns-in-R
 collect_part-returns-in-Region-clause-meets g t' c =
     let m = g.I.Interner.meaning c.args.cx.now in
     let eq = (ghosts g.row.I-Key g.I.Key.PartialEq g.I.Key.PartialEq-dict).eq in
-    ok_any c.collect_region.result
+    on_ok c.collect_region.result _
     (meets_none m eq (keys_of c.args.visited.now) (keys_of c.args.visited.now) c.collect_region.new.out.items refl)
 
 pub collect_part-returns-in-Ty-clause-some : goal.collect_part-returns-in-Ty-clause-some
@@ -641,7 +642,7 @@ pub collect_form-returns-in-Param-clause-meets : goal.collect_form-returns-in-Pa
 collect_form-returns-in-Param-clause-meets g t' c =
     let m = g.I.Interner.meaning c.args.cx.now in
     let eq = (ghosts g.row.I-Key g.I.Key.PartialEq g.I.Key.PartialEq-dict).eq in
-    ok_any c.add.result
+    on_ok c.add.result _
     (meets_none m eq (keys_of c.args.visited.now) (keys_of c.args.visited.now) c.add.new.out.items refl)
 
 pub collect_form-returns-in-Placeholder-clause-some : goal.collect_form-returns-in-Placeholder-clause-some
@@ -668,7 +669,7 @@ pub collect_form-returns-in-Placeholder-clause-meets : goal.collect_form-returns
 collect_form-returns-in-Placeholder-clause-meets g t' c =
     let m = g.I.Interner.meaning c.args.cx.now in
     let eq = (ghosts g.row.I-Key g.I.Key.PartialEq g.I.Key.PartialEq-dict).eq in
-    ok_any c.add-in-Placeholder.result
+    on_ok c.add-in-Placeholder.result _
     (meets_none m eq (keys_of c.args.visited.now) (keys_of c.args.visited.now) c.add-in-Placeholder.new.out.items refl)
 
 pub collect_form-returns-in-Infer-clause-some : goal.collect_form-returns-in-Infer-clause-some
@@ -695,7 +696,7 @@ pub collect_form-returns-in-Infer-clause-meets : goal.collect_form-returns-in-In
 collect_form-returns-in-Infer-clause-meets g t' c =
     let m = g.I.Interner.meaning c.args.cx.now in
     let eq = (ghosts g.row.I-Key g.I.Key.PartialEq g.I.Key.PartialEq-dict).eq in
-    ok_any c.add-in-Infer.result
+    on_ok c.add-in-Infer.result _
     (meets_none m eq (keys_of c.args.visited.now) (keys_of c.args.visited.now) c.add-in-Infer.new.out.items refl)
 
 pub collect_form-collect_escaping-requires : goal.collect_form-collect_escaping-requires
@@ -734,7 +735,7 @@ pub collect_form-returns-in-Alias-clause-meets : goal.collect_form-returns-in-Al
 collect_form-returns-in-Alias-clause-meets g t' c =
     let m = g.I.Interner.meaning c.args.cx.now in
     let eq = (ghosts g.row.I-Key g.I.Key.PartialEq g.I.Key.PartialEq-dict).eq in
-    ok_any c.collect_escaping.result
+    on_ok c.collect_escaping.result _
     (meets_none m eq (keys_of c.args.visited.now) (keys_of c.args.visited.now) c.collect_escaping.new.out.items refl)
 
 pub collect_form-returns-in-Alias-2-clause-some : goal.collect_form-returns-in-Alias-2-clause-some
@@ -762,7 +763,7 @@ pub collect_form-returns-in-Alias-2-clause-meets : goal.collect_form-returns-in-
 collect_form-returns-in-Alias-2-clause-meets g t' c =
     let m = g.I.Interner.meaning c.args.cx.now in
     let eq = (ghosts g.row.I-Key g.I.Key.PartialEq g.I.Key.PartialEq-dict).eq in
-    ok_any c.add-in-Alias-2.result
+    on_ok c.add-in-Alias-2.result _
     (meets_none m eq (keys_of c.args.visited.now) (keys_of c.args.visited.now) c.add-in-Alias-2.new.out.items refl)
 
 pub collect_ty-collect_form-requires : goal.collect_ty-collect_form-requires

@@ -18,7 +18,8 @@ use Rattle.relation_steps.proofs.Fronts.{Fronted, fronted_none, fronted_next}
 use Rattle.relation_recursion.proofs.Looping.{next_asked}
 use Rattle.relation_recursion.proofs.Arguments.{form_related, form_refused, form_stopped, args_related_head, args_looked_at, args_normal}
 use Rattle.relation_recursion.proofs.Arguments.{args_first_order, args_complain, args_heads}
-use Rattle.relation_semantics.proofs.Answering.{same_items, AreAnswers, answers_none, answers_next, answers_end, may_form, if_ok_both}
+use Rattle.relation_semantics.proofs.Answering.{same_items, AreAnswers, answers_none, answers_next, answers_end, may_form}
+use Rattle.relation_folds.proofs.Folding.{if_ok_both}
 use Rattle.relation_semantics.proofs.Retelling.{made_or_not}
 use Rattle.relation_recursion.proofs.args.relate_args.Goals as goal
 use Rattle.relation_terms.proofs.Members.{terms_list}
@@ -233,9 +234,9 @@ returns g c j alike =
     (args_normal r.meaning d j ts us alike) all c.requires.as_many refl k.left_known in
     made_or_not M r.ambient (node h ts) (node j us) made.extends made.grown tree (λ (t : Tree). t) (node h ts) done
     c.make_args.result made.fault
-    (if_ok_both (λ z. IsTrue (known ((p.meaning).args z)))
-    (λ z. (p.meaning).args z ≡ list_tree (arg_tree q.meaning) c.as_slice.result.now)
-    (λ z. MayAnswer M q r.ambient (node h ts) (tree z) × IsTrue (known (tree z))) c.make_args.result
+    (if_ok_both {P = λ z. IsTrue (known ((p.meaning).args z))}
+    {Q = λ z. (p.meaning).args z ≡ list_tree (arg_tree q.meaning) c.as_slice.result.now}
+    {R = λ z. MayAnswer M q r.ambient (node h ts) (tree z) × IsTrue (known (tree z))} c.make_args.result
     (λ z sure means. (
       subst (MayAnswer M q r.ambient (node h ts)) (sym (ap (λ x. node x ((p.meaning).args z)) heads
           ∙ ap (node h) (means ∙ ap (list_tree (arg_tree q.meaning)) c.as_slice.ensures.value))) value,

@@ -8,7 +8,7 @@ use Rattle.relation_semantics.specs.Lawful.{Asked, Related, Shown, MayAnswer}
 use Rattle.relation_semantics.proofs.Building.{built_as}
 use Rattle.relation_semantics.proofs.Passing.{as_err, asked_later}
 use Rattle.relation_recursion.proofs.Arguments.{args_heads, over_later}
-use Rattle.relation_semantics.proofs.Answering.{if_ok_both}
+use Rattle.relation_folds.proofs.Folding.{if_ok_both}
 use Rattle.relation_semantics.proofs.PassingOn.{noted_related, noted_refused}
 use Rattle.relation_semantics.proofs.Retelling.{refused_again, made_or_not, related_agrees, shown_now}
 use Rattle.relation_recursion.proofs.args.relate_ty_args.Goals as goal
@@ -157,9 +157,9 @@ returns g c =
     ap head_of (a_stays ∙ is.0) ∙ sym (args_heads e v ∙ args_heads first v) in
     let made = c.make_over.ensures in
     made_or_not M r.ambient a b made.extends made.grown (u.meaning).ty answer args noted c.make_over.result made.fault
-    (if_ok_both (λ z. IsTrue (known ((u.meaning).ty z)))
-    (λ z. (u.meaning).ty z ≡ node (head_of ((p.meaning).ty c.args.a_ty.now)) ((p.meaning).args args))
-    (λ z. MayAnswer M p r.ambient a ((u.meaning).ty z) × IsTrue (known ((u.meaning).ty z))) c.make_over.result
+    (if_ok_both {P = λ z. IsTrue (known ((u.meaning).ty z))}
+    {Q = λ z. (u.meaning).ty z ≡ node (head_of ((p.meaning).ty c.args.a_ty.now)) ((p.meaning).args args)}
+    {R = λ z. MayAnswer M p r.ambient a ((u.meaning).ty z) × IsTrue (known ((u.meaning).ty z))} c.make_over.result
     (λ z sure means. (
       subst (MayAnswer M p r.ambient a) (sym (means ∙ ap (λ h. node h ((p.meaning).args args)) head)) (noted.verdict).answer,
       sure,

@@ -6,7 +6,8 @@ use Rattle.relation_terms.proofs.Stays.{extends_on}
 use Rattle.relation_terms.proofs.Members.{if_ok}
 use Rattle.relation_semantics.specs.Parts.{const_parts_of}
 use Rattle.relation_semantics.specs.Making.{const_over}
-use Rattle.relation_recursion.proofs.MadeAnew.{value_of, value_type_known, value_tree_known, value_known}
+use Rattle.relation_recursion.proofs.MadeAnew.{value_type_known, value_tree_known, value_known}
+use Rattle.relation_terms.specs.Meaning.{value_tree}
 use Rattle.relation_recursion.proofs.AsParts.{args_as, fits_as, branches_as, value_over, const_parts_as, const_over_as}
 use Rattle.relation_recursion.proofs.making.const_with_parts.Goals as goal
 
@@ -16,7 +17,7 @@ with_parts-requires g c =
     let k = m.const_ c.args.constant.now in
     let t = m.ty c.in-Value.ty in
     let v = m.valtree c.in-Value.value in
-    let e : k ≡ value_of t v = c.const_kind.ensures ∙ ap (const_tree m) c.in-Value.is in
+    let e : k ≡ value_tree t v = c.const_kind.ensures ∙ ap (const_tree m) c.in-Value.is in
     let sure = value_tree_known k t v e c.requires.constant_known in
     let is = (g.met.I.Interner.sorted c.args.cx.now).valtree c.in-Value.value sure in
     let xs = c.args.args.now in
@@ -35,7 +36,7 @@ mk_const-requires g c =
     let k = m.const_ c.args.constant.now in
     let t = m.ty c.in-Value.ty in
     let v = m.valtree c.in-Value.value in
-    let e : k ≡ value_of t v = c.const_kind.ensures ∙ ap (const_tree m) c.in-Value.is in
+    let e : k ≡ value_tree t v = c.const_kind.ensures ∙ ap (const_tree m) c.in-Value.is in
     let sure = value_type_known k t v e c.requires.constant_known in
     let made = c.in_ok-value-in-Value.ensures in
     let same : n.ty c.in-Value.ty ≡ t = (made.grown).ty c.in-Value.ty sure in
@@ -50,7 +51,7 @@ returns-in-Value g c =
     let k = m.const_ c.args.constant.now in
     let t = m.ty c.in-Value.ty in
     let v = m.valtree c.in-Value.value in
-    let e : k ≡ value_of t v = c.const_kind.ensures ∙ ap (const_tree m) c.in-Value.is in
+    let e : k ≡ value_tree t v = c.const_kind.ensures ∙ ap (const_tree m) c.in-Value.is in
     let is = (g.met.I.Interner.sorted c.args.cx.now).valtree c.in-Value.value
     (value_tree_known k t v e c.requires.constant_known) in
     let xs = c.args.args.now in
@@ -61,8 +62,8 @@ returns-in-Value g c =
     let same : n.ty c.in-Value.ty ≡ t =
     (made.grown).ty c.in-Value.ty (value_type_known k t v e c.requires.constant_known) in
     let r : n.valtree c.expect_valtree.result ≡ term_over v us = ap (part_tree n) c.expect_valtree.ensures ∙ made.made in
-    let whole : value_of (n.ty c.in-Value.ty) (n.valtree c.expect_valtree.result) ≡ const_over k us =
-    ap₂ value_of same r ∙ value_over t v us is ∙ sym (ap (λ z. const_over z us) e) in
+    let whole : value_tree (n.ty c.in-Value.ty) (n.valtree c.expect_valtree.result) ≡ const_over k us =
+    ap₂ value_tree same r ∙ value_over t v us is ∙ sym (ap (λ z. const_over z us) e) in
     record {
       extends = extends_on made.grown c.mk_const.ensures.grown;
       sure = c.mk_const.ensures.sure;

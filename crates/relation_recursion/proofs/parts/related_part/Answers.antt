@@ -2,7 +2,8 @@ use Rattle.std.proofs.Common.{◌≡◌, ◌∙◌, sym, ap}
 use Rattle.relation_terms.specs.Meaning.{const_tree}
 use Rattle.relation_terms.specs.Parts.{parts_of}
 use Rattle.relation_semantics.specs.Parts.{const_parts_of}
-use Rattle.relation_recursion.proofs.MadeAnew.{value_of, value_tree_known}
+use Rattle.relation_recursion.proofs.MadeAnew.{value_tree_known}
+use Rattle.relation_terms.specs.Meaning.{value_tree}
 use Rattle.relation_recursion.proofs.AsParts.{branches_as, const_parts_as}
 use Rattle.relation_recursion.proofs.parts.related_part.Goals as goal
 
@@ -12,7 +13,7 @@ returns-in-Value g c =
     let k = m.const_ c.args.constant.now in
     let t = m.ty c.in-Value.field-0 in
     let v = m.valtree c.in-Value.value in
-    let e : k ≡ value_of t v = c.const_kind.ensures ∙ ap (const_tree m) c.in-Value.is in
+    let e : k ≡ value_tree t v = c.const_kind.ensures ∙ ap (const_tree m) c.in-Value.is in
     let sure = value_tree_known k t v e c.requires in
     record {
       sure = sure;

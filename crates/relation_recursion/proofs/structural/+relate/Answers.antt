@@ -29,7 +29,8 @@ use Rattle.relation_recursion.proofs.ByParts.{no_inputs_yet, inputs_next, compar
 use Rattle.relation_recursion.proofs.ByParts.{depth_turned}
 use Rattle.part_variances.specs.PartErrors.{IsResultOfTy, IsResultOfConst, IsResultOfPart, named_place}
 use Rattle.relation_semantics.specs.Making.{arg_sort, FitArgs, form_over, const_over}
-use Rattle.relation_semantics.proofs.Answering.{same_items, same_settings, AreAnswers, answers_end, may_over, may_const_over, may_later, if_ok_both, covariantly}
+use Rattle.relation_semantics.proofs.Answering.{same_items, same_settings, AreAnswers, answers_end, may_over, may_const_over, may_later, covariantly}
+use Rattle.relation_folds.proofs.Folding.{if_ok_both}
 use Rattle.relation_recursion.specs.PredicateForms.{form_of_part}
 use Rattle.relation_recursion.proofs.PredicateForms.{arg_form, binder_form, made_form}
 use Rattle.relation_recursion.proofs.MadeAnew.{fit_end, fits_place}
@@ -2522,9 +2523,9 @@ relate_in_order-returns g t c =
           (ap₂ form_over same_a (ap (list_tree (part_tree q.meaning)) c.as_slice.ensures.value)) (made.made).sure
           (made.made).means;
       sort = made.sort;
-      predicate = if_ok_both (λ z. part_sort z ≡ part_sort c.args.a.now) (λ z. part_tree p.meaning z ≡
-          form_over (part_tree q.meaning c.args.a.now) (list_tree (part_tree q.meaning) c.as_slice.result.now))
-          (λ z. form_of_part z ≡ form_of_part c.args.a.now) c.make_part.result
+      predicate = if_ok_both {P = λ z. part_sort z ≡ part_sort c.args.a.now} {Q = λ z. part_tree p.meaning z ≡
+          form_over (part_tree q.meaning c.args.a.now) (list_tree (part_tree q.meaning) c.as_slice.result.now)}
+          {R = λ z. form_of_part z ≡ form_of_part c.args.a.now} c.make_part.result
           (λ z o e. made_form q.meaning p.meaning c.args.a.now z _ o e) made.sort (made.made).means;
     }
 

@@ -1,7 +1,8 @@
 -- Whether the next node is added.
 use Rattle.std.proofs.Common.{arith, ◌<◌, ◌∙◌, ap, sym, length, ℕ, true, false}
+use Rattle.std.proofs.lemmas.Bool.{false≢true}
 use Rattle.std.specs.Global.{Vec}
-use Rattle.relation_regions.proofs.Widened.{some_as_read, both_ways}
+use Rattle.relation_regions.proofs.Widened.{some_as_read}
 use Rattle.relation_regions.proofs.Deciding.{value_added, value_passed}
 use Rattle.relation_regions.proofs.decide.add_values.Goals as goal
 use Rattle.relation_regions.proofs.decide.add_values.Goals.{then-not-is_given+then-is_some+in_ok-push, else-not-is_given}
@@ -26,11 +27,12 @@ loop-node-preserved c =
             | else-not-is_given-via-then-not-is_given+else-is_some v ↦
                 value_passed c.args.standings.now c.args.found.now c.args.target c.loop-node.node c.args.values.now.items
                 c.loop-node.values.items c.if-not-is_given.values.items c.loop-node.invariant
-                (λ f g. both_ways g (some_as_read c.args.found.now.places.items c.loop-node.node v.index.result.now
-                false lt_places v.index.ensures (sym v.is_some.ensures ∙ v.if-is_some.false))) same
+                (λ f g. false≢true (sym (some_as_read c.args.found.now.places.items c.loop-node.node
+                v.index.result.now false lt_places v.index.ensures (sym v.is_some.ensures ∙ v.if-is_some.false)) ∙ g))
+                same
             | else-not-is_given-via-else-not-is_given v ↦
                 value_passed c.args.standings.now c.args.found.now c.args.target c.loop-node.node c.args.values.now.items
                 c.loop-node.values.items c.if-not-is_given.values.items c.loop-node.invariant
-                (λ f g. both_ways (sym c.is_given.ensures ∙ v.if-not-is_given.false) f) same
+                (λ f g. false≢true (sym f ∙ (sym c.is_given.ensures ∙ v.if-not-is_given.false))) same
           ]
     ]

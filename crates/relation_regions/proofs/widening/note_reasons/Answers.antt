@@ -1,7 +1,8 @@
 -- Whether the next node is noted.
 use Rattle.std.proofs.Common.{arith, ◌<◌, ◌∙◌, ap, sym, length, Option, ℕ, true, false}
+use Rattle.std.proofs.lemmas.Bool.{false≢true}
 use Rattle.std.specs.Global.{Vec}
-use Rattle.relation_regions.proofs.Widened.{noted_yes, noted_no, all_noted, some_as_read, found_in, both_ways}
+use Rattle.relation_regions.proofs.Widened.{noted_yes, noted_no, all_noted, some_as_read, found_in}
 use Rattle.relation_regions.proofs.widening.note_reasons.Goals as goal
 use Rattle.relation_regions.proofs.widening.note_reasons.Goals.{then-is_some+then-is_beyond, else-is_some}
 use Rattle.relation_regions.proofs.widening.note_reasons.Goals.{else-is_some-via-then-is_some+else-is_beyond}
@@ -25,12 +26,13 @@ loop-node-preserved c =
             | else-is_some-via-then-is_some+else-is_beyond v ↦
                 noted_no c.args.graph.now c.args.standings.now c.args.found.now c.args.target c.loop-node.node
                 c.loop-node.reasons.items c.if-is_some.reasons.items c.loop-node.invariant
-                (λ f b. both_ways b (sym v.is_beyond.ensures ∙ v.if-is_beyond.false)) same
+                (λ f b. false≢true (sym (sym v.is_beyond.ensures ∙ v.if-is_beyond.false) ∙ b)) same
             | else-is_some-via-else-is_some v ↦
                 noted_no c.args.graph.now c.args.standings.now c.args.found.now c.args.target c.loop-node.node
                 c.loop-node.reasons.items c.if-is_some.reasons.items c.loop-node.invariant
-                (λ f b. both_ways f (some_as_read c.args.found.now.places.items c.loop-node.node c.index.result.now
-                false lt_places c.index.ensures (sym c.is_some.ensures ∙ v.if-is_some.false))) same
+                (λ f b. false≢true (sym (some_as_read c.args.found.now.places.items c.loop-node.node
+                c.index.result.now false lt_places c.index.ensures (sym c.is_some.ensures ∙ v.if-is_some.false)) ∙ f))
+                same
           ]
     ]
 

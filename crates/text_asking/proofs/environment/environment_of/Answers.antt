@@ -2,7 +2,7 @@ use Rattle.std.proofs.Common.{IsTrue, refl, sym, ap, ◌∙◌, subst}
 use Rattle.relation_terms.specs.Heads.{environment}
 use Rattle.relation_terms.specs.Trees.{Tree, node, known, list_tree}
 use Rattle.relation_terms.proofs.Members.{mapped}
-use Rattle.text_asking.proofs.EnvironmentLemmas.{list_known}
+use Rattle.text_proving.proofs.Making.{list_known}
 use Rattle.text_asking.proofs.environment.environment_of.Goals as goal
 
 pub mk_clauses-requires : goal.mk_clauses-requires

@@ -3,7 +3,8 @@ use Rattle.std.specs.List.{All}
 use Rattle.relation_terms.specs.Meaning.{Extends}
 use Rattle.relation_terms.proofs.Stays.{extends_on}
 use Rattle.text_elaboration.specs.Pulls.{KnowsPulled, AnswersBegun, Elaborates}
-use Rattle.text_elaboration.proofs.PullLemmas.{both_modes, elaborates, if_ok}
+use Rattle.relation_terms.proofs.Members.{if_ok}
+use Rattle.text_elaboration.proofs.PullLemmas.{both_modes, elaborates}
 use Rattle.text_elaboration.proofs.pulls.elaborated.Goals as goal
 
 -- The reference that is given back is the one that was lent, so the interner is what is behind it.
@@ -44,8 +45,8 @@ returns-clause-answers g c =
     let u = c.pull_begun-all.new.elaborator in
     let new = c.new-elaborator.ensures in
     let took = c.extend_deduped-begun.ensures in
-    if_ok (λ all. AnswersBegun g.I.Interner.meaning r w all.items u)
-    (λ all. Elaborates g.I.Interner.meaning first given manner all.items) c.pull_begun-all.result
+    if_ok {P = λ all. AnswersBegun g.I.Interner.meaning r w all.items u}
+    {Q = λ all. Elaborates g.I.Interner.meaning first given manner all.items} c.pull_begun-all.result
     (λ all goes. elaborates g.I.Interner.meaning first given manner r s t w u all.items new.same new.stack new.visited
     (new.limit ∙ c.limit.ensures) new.mode new.fault took.keeps took.fault took.takes took.limit
     (both_modes g.I.Interner.meaning t c.with_self-elaborator.result w manner.only_self manner.sized

@@ -5,7 +5,8 @@ use Rattle.relation_terms.proofs.Stays.{extends_on}
 use Rattle.relation_elaboration.specs.Pulling.{BeginsClosure}
 use Rattle.relation_elaboration.specs.Finding.{TraitsByClosure}
 use Rattle.text_elaboration.specs.Pulls.{KnowsPulled, FindsUpTo, AnswersSupertraits, WentOn}
-use Rattle.text_elaboration.proofs.PullLemmas.{if_ok, if_ok2}
+use Rattle.relation_terms.proofs.Members.{if_ok}
+use Rattle.relation_folds.proofs.Folding.{if_ok_both}
 use Rattle.text_elaboration.proofs.SupertraitLemmas.{supertraits_closed, none_allowed, supertraits_answer}
 use Rattle.text_elaboration.proofs.pulls.supertraits_of.Goals as goal
 
@@ -52,8 +53,8 @@ returns-clause-answers g c =
     let new = c.new.ensures in
     let took = c.extend_deduped.ensures in
     let set = c.filter_only_self-elaborator.ensures in
-    let closed = if_ok (λ a. BeginsClosure meaning (λ n x. n.clause x) given s t)
-    (λ a. TraitsByClosure meaning m c.args.of t) r
+    let closed = if_ok {P = λ a. BeginsClosure meaning (λ n x. n.clause x) given s t}
+    {Q = λ a. TraitsByClosure meaning m c.args.of t} r
     (λ a begins. supertraits_closed meaning first (g.met.I.Interner.states c.args.cx.now) c.in_ok-clause.ensures.grown
     c.args.of k c.in_ok-clause.ensures.made given z s t these new.same new.stack new.visited new.mode set took.keeps
     begins) took.closure in
@@ -66,8 +67,8 @@ returns-clause-answers g c =
     let most = c.saturating_add.ensures in
     subst (λ n. IfOk c.pull_traits-all.result (λ all. AnswersSupertraits m (meaning n) c.args.of limit all.items))
     (sym back)
-    (if_ok2 (λ all. FindsUpTo meaning c.new-traits.result all.items u) (λ all. WentOn count all.items)
-    (λ all. AnswersSupertraits m (meaning u.cx) c.args.of limit all.items) c.pull_traits-all.result
+    (if_ok_both {P = λ all. FindsUpTo meaning c.new-traits.result all.items u} {Q = λ all. WentOn count all.items}
+    {R = λ all. AnswersSupertraits m (meaning u.cx) c.args.of limit all.items} c.pull_traits-all.result
     (λ all finds went. supertraits_answer meaning m c.args.of limit count r all.items t u took.fault closed
     (took.keeps.limit ∙ ap (λ y. y.limit) set ∙ new.limit)
     (λ full. none_allowed meaning first k given z s limit these new.same new.visited new.limit new.fault set

@@ -1,6 +1,7 @@
 use Rattle.std.proofs.Common.{◌∙◌}
 use Rattle.relation_terms.proofs.Stays.{extends_on}
-use Rattle.text_proving.proofs.Implying.{if_ok, run_closes}
+use Rattle.relation_terms.proofs.Members.{if_ok}
+use Rattle.text_proving.proofs.Implying.{run_closes}
 use Rattle.text_proving.proofs.implied.pull_given.Goals as goal
 
 pub returns-in_err-extend_deduped-clause-same_reference : goal.returns-in_err-extend_deduped-clause-same_reference

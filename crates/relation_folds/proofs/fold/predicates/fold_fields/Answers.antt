@@ -5,7 +5,8 @@ use Rattle.relation_terms.proofs.Fields.{stays_field}
 use Rattle.relation_terms.proofs.Stays.{knows_as}
 use Rattle.relation_folds.specs.FieldFolds.{FoldsFields}
 use Rattle.relation_folds.proofs.Folding.{steps_on}
-use Rattle.relation_folds.proofs.FieldFolding.{two_known, first_later, first_known, second_later, two_known_now, two_folded}
+use Rattle.relation_terms.proofs.Predicates.{two_known}
+use Rattle.relation_folds.proofs.FieldFolding.{first_later, first_known, second_later, two_known_now, two_folded}
 use Rattle.relation_folds.proofs.fold.predicates.fold_fields.Goals as goal
 
 pub returns-in_err-new_second-in-Two-clause-steps : goal.returns-in_err-new_second-in-Two-clause-steps

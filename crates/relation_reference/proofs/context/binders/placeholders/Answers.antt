@@ -5,7 +5,7 @@ use Rattle.relation_terms.specs.Trees.{known, list_tree}
 use Rattle.relation_terms.specs.Meaning.{arg_tree, bound_kind_of}
 use Rattle.relation_terms.proofs.Stays.{stays_same, extends_on}
 use Rattle.relation_semantics.specs.Binders.{kinds_in}
-use Rattle.relation_reference.specs.Opened.{placeholders_from}
+use Rattle.relation_semantics.specs.Binders.{placeholders_from}
 use Rattle.relation_reference.proofs.Binders.{placeholders_next, args_next, args_known}
 use Rattle.relation_reference.proofs.context.binders.placeholders.Goals as goal
 

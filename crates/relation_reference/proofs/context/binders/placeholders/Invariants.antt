@@ -1,8 +1,7 @@
 use Rattle.std.proofs.Common.{◌≡◌, IsTrue, map, take}
 use Rattle.relation_terms.specs.Trees.{known, list_tree}
 use Rattle.relation_terms.specs.Meaning.{Extends, arg_tree}
-use Rattle.relation_semantics.specs.Binders.{kinds_in}
-use Rattle.relation_reference.specs.Opened.{placeholders_from}
+use Rattle.relation_semantics.specs.Binders.{kinds_in, placeholders_from}
 use Rattle.relation_reference.proofs.context.binders.placeholders.Given as goal
 
 abbrev pub invariant-loop-place : goal.invariant-loop-place

@@ -4,7 +4,8 @@ use Rattle.relation_terms.specs.Trees.{node, cons, nil, known, list_tree}
 use Rattle.relation_terms.specs.Meaning.{arg_tree, term_tree}
 use Rattle.relation_terms.specs.Predicates.{alias_term_kind, alias_term_id}
 use Rattle.relation_terms.proofs.Stays.{stays_arg}
-use Rattle.text_terms.proofs.BuildingLemmas.{two_known, known_list, built_list, term_is}
+use Rattle.relation_folds.proofs.FieldFolding.{both_known}
+use Rattle.text_terms.proofs.BuildingLemmas.{known_list, built_list, term_is}
 use Rattle.text_clauses.specs.Clauses.{declared_tree, says_tree}
 use Rattle.text_clauses.proofs.ClauseLemmas.{declared_is}
 use Rattle.text_clauses.proofs.building.kinds.make_projection.Goals as goal
@@ -31,7 +32,7 @@ returns-in-Ok-clause-made g c names =
     let sure = c.requires c.in-ComesTo.key key there in
     let same = term_is n term ∙ (ap (arg_tree n) (sym c.in_ok-term-in-ComesTo.ensures) ∙ stays_arg e key sure) in
     let alias = node (alias_term (alias_term_kind kind) (n.id (alias_term_id kind))) args in (
-      two_known alias (term_tree n term) c.in-Ok.ensures.sure
+      both_known alias (term_tree n term) c.in-Ok.ensures.sure
           (subst (λ t. IsTrue (known t)) (sym same) sure),
       λ trees b. ap₂ (λ u v. node projection (cons u (cons v nil)))
           (c.in_ok-kind-in-ComesTo.ensures n.id args

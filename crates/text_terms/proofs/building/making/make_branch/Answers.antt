@@ -3,7 +3,7 @@ use Rattle.relation_terms.specs.Heads.{value_branch}
 use Rattle.relation_terms.specs.Trees.{node, known, list_tree}
 use Rattle.relation_terms.specs.Meaning.{arg_tree}
 use Rattle.relation_terms.proofs.Stays.{extends_on}
-use Rattle.text_terms.specs.Terms.{value_tree}
+use Rattle.relation_terms.specs.Meaning.{value_tree}
 use Rattle.text_terms.proofs.BuildingLemmas.{consts_tree, tree_as}
 use Rattle.text_terms.proofs.building.making.make_branch.Goals as goal
 

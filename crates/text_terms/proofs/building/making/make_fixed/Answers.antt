@@ -2,27 +2,29 @@ use Rattle.std.proofs.Common.{sym, ap, ap₂, ◌∙◌}
 use Rattle.relation_terms.specs.Heads.{atom, array, slice, raw_ptr, ref, value_leaf}
 use Rattle.relation_terms.specs.Trees.{leaf, node, nil, cons}
 use Rattle.relation_terms.specs.declared.terms.generic_arg.GenericArgKind.TheVariants.{Lifetime, Ty, Const}
-use Rattle.text_terms.specs.Terms.{value_tree, text_term_tree}
-use Rattle.text_terms.proofs.BuildingLemmas.{one_known, two_known, makes}
+use Rattle.relation_terms.specs.Meaning.{value_tree}
+use Rattle.text_terms.specs.Terms.{text_term_tree}
+use Rattle.relation_folds.proofs.FieldFolding.{both_known}
+use Rattle.text_terms.proofs.BuildingLemmas.{alone_known, makes}
 use Rattle.text_terms.proofs.building.making.make_fixed.Goals as goal
 
 pub make_ty-requires : goal.make_ty-requires
-make_ty-requires g c = one_known ((g.I.Interner.meaning c.args.cx.now).ty c.in_ok-element-in-Slice.element) (c.requires c.in-Slice.element (Ty c.in_ok-element-in-Slice.element) c.in_ok-element-in-Slice.ensures)
+make_ty-requires g c = alone_known ((g.I.Interner.meaning c.args.cx.now).ty c.in_ok-element-in-Slice.element) (c.requires c.in-Slice.element (Ty c.in_ok-element-in-Slice.element) c.in_ok-element-in-Slice.ensures)
 
 pub make_ty-requires-in-Array : goal.make_ty-requires-in-Array
 make_ty-requires-in-Array g c =
     let m = g.I.Interner.meaning c.args.cx.now in
-    two_known (m.ty c.in_ok-element-in-Array.element) (m.const_ c.in_ok-length-in-Array.length)
+    both_known (m.ty c.in_ok-element-in-Array.element) (m.const_ c.in_ok-length-in-Array.length)
     (c.requires c.in-Array.element (Ty c.in_ok-element-in-Array.element) c.in_ok-element-in-Array.ensures)
     (c.requires c.in-Array.length (Const c.in_ok-length-in-Array.length) c.in_ok-length-in-Array.ensures)
 
 pub make_ty-requires-in-RawPtr : goal.make_ty-requires-in-RawPtr
-make_ty-requires-in-RawPtr g c = one_known ((g.I.Interner.meaning c.args.cx.now).ty c.in_ok-pointee-in-RawPtr.pointee) (c.requires c.in-RawPtr.pointee (Ty c.in_ok-pointee-in-RawPtr.pointee) c.in_ok-pointee-in-RawPtr.ensures)
+make_ty-requires-in-RawPtr g c = alone_known ((g.I.Interner.meaning c.args.cx.now).ty c.in_ok-pointee-in-RawPtr.pointee) (c.requires c.in-RawPtr.pointee (Ty c.in_ok-pointee-in-RawPtr.pointee) c.in_ok-pointee-in-RawPtr.ensures)
 
 pub make_ty-requires-in-Ref : goal.make_ty-requires-in-Ref
 make_ty-requires-in-Ref g c =
     let m = g.I.Interner.meaning c.args.cx.now in
-    two_known (m.region c.in_ok-region-in-Ref.region) (m.ty c.in_ok-pointee-in-Ref.pointee)
+    both_known (m.region c.in_ok-region-in-Ref.region) (m.ty c.in_ok-pointee-in-Ref.pointee)
     (c.requires c.in-Ref.region (Lifetime c.in_ok-region-in-Ref.region) c.in_ok-region-in-Ref.ensures)
     (c.requires c.in-Ref.pointee (Ty c.in_ok-pointee-in-Ref.pointee) c.in_ok-pointee-in-Ref.ensures)
 

@@ -3,7 +3,8 @@ use Rattle.relation_terms.specs.Heads.{tuple, expression, value_branch}
 use Rattle.relation_terms.specs.Trees.{node, known, list_tree}
 use Rattle.relation_terms.specs.Meaning.{arg_tree}
 use Rattle.relation_terms.specs.declared.terms.generic_arg.GenericArgKind.TheVariants.{Ty}
-use Rattle.text_terms.specs.Terms.{item_tree, value_tree, text_term_tree}
+use Rattle.relation_terms.specs.Meaning.{value_tree}
+use Rattle.text_terms.specs.Terms.{item_tree, text_term_tree}
 use Rattle.text_terms.proofs.BuildingLemmas.{known_list, built_list, item_is, makes}
 use Rattle.text_terms.proofs.building.making.make_listed.Goals as goal
 

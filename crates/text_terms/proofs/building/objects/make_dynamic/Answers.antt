@@ -4,7 +4,8 @@ use Rattle.relation_terms.specs.Meaning.{object_predicate_tree}
 use Rattle.relation_terms.proofs.Stays.{extends_on, knows_region}
 use Rattle.text_terms.specs.Terms.{object_tree}
 use Rattle.text_terms.specs.Built.{inner_tree}
-use Rattle.text_terms.proofs.BuildingLemmas.{predicates_tree, tree_as, two_known}
+use Rattle.relation_folds.proofs.FieldFolding.{both_known}
+use Rattle.text_terms.proofs.BuildingLemmas.{predicates_tree, tree_as}
 use Rattle.text_terms.proofs.building.objects.make_dynamic.Goals as goal
 
 pub mk_existential_predicates-requires : goal.mk_existential_predicates-requires
@@ -18,7 +19,7 @@ mk_existential_predicates-requires g c =
 pub make_ty-requires : goal.make_ty-requires
 make_ty-requires g c =
     let p = g.I.Interner.meaning c.mk_existential_predicates.new.self in
-    two_known (p.existential_predicates c.in-Ok.predicates) (p.region c.args.region) c.in-Ok.ensures.sure
+    both_known (p.existential_predicates c.in-Ok.predicates) (p.region c.args.region) c.in-Ok.ensures.sure
     (knows_region c.mk_existential_predicates.ensures.grown c.args.region c.requires.region)
 
 pub returns-clause-grown : goal.returns-clause-grown

@@ -4,13 +4,14 @@ use Rattle.relation_terms.specs.Trees.{node, nil, cons, known, list_tree}
 use Rattle.relation_terms.specs.declared.terms.generic_arg.GenericArgKind.TheVariants.{Const}
 use Rattle.text_terms.specs.Terms.{text_term_tree}
 use Rattle.text_terms.specs.Built.{inner_tree}
-use Rattle.text_terms.proofs.BuildingLemmas.{two_known, known_list, built_list, made_of}
+use Rattle.relation_folds.proofs.FieldFolding.{both_known}
+use Rattle.text_terms.proofs.BuildingLemmas.{known_list, built_list, made_of}
 use Rattle.text_terms.proofs.building.patterns.make_pattern.Goals as goal
 
 pub make_pat-requires : goal.make_pat-requires
 make_pat-requires g c =
     let m = g.I.Interner.meaning c.args.cx.now in
-    two_known (m.const_ c.in_ok-start-in-Range.start) (m.const_ c.in_ok-end-in-Range.end)
+    both_known (m.const_ c.in_ok-start-in-Range.start) (m.const_ c.in_ok-end-in-Range.end)
     (c.requires.keys c.in-Range.start (Const c.in_ok-start-in-Range.start) c.in_ok-start-in-Range.ensures)
     (c.requires.keys c.in-Range.end (Const c.in_ok-end-in-Range.end) c.in_ok-end-in-Range.ensures)
 

@@ -5,13 +5,14 @@ use Rattle.relation_terms.specs.Meaning.{arg_tree}
 use Rattle.relation_terms.specs.declared.terms.generic_arg.GenericArgKind.TheVariants.{Ty}
 use Rattle.text_terms.specs.Terms.{text_term_tree}
 use Rattle.text_terms.specs.Built.{inner_tree}
-use Rattle.text_terms.proofs.BuildingLemmas.{two_known, made_of}
+use Rattle.relation_folds.proofs.FieldFolding.{both_known}
+use Rattle.text_terms.proofs.BuildingLemmas.{made_of}
 use Rattle.text_terms.proofs.building.patterns.make_pattern_type.Goals as goal
 
 pub make_ty-requires : goal.make_ty-requires
 make_ty-requires g c =
     let m = g.I.Interner.meaning c.args.cx.now in
-    two_known (m.ty c.in_ok-base-in-Pat.base) (m.pat c.in-Pat-2.pat)
+    both_known (m.ty c.in_ok-base-in-Pat.base) (m.pat c.in-Pat-2.pat)
     (c.requires.keys c.in-Pat.base (Ty c.in_ok-base-in-Pat.base) c.in_ok-base-in-Pat.ensures)
     (subst (λ x. IsTrue (known (inner_tree m x))) c.in-Pat-2.is
     (c.requires.inners c.in-Pat.pat c.in_ok-pat-in-Pat.field-0 c.in_ok-pat-in-Pat.ensures))

@@ -9,7 +9,8 @@ use Rattle.relation_terms.proofs.Stays.{stays_term, knows_as}
 use Rattle.relation_terms.specs.Parts.{parts_of}
 use Rattle.relation_folds.specs.Folds.{folded}
 use Rattle.relation_folds.proofs.Folding.{later, left_later, steps_on}
-use Rattle.relation_folds.proofs.FieldFolding.{two_known, both_known}
+use Rattle.relation_terms.proofs.Predicates.{two_known}
+use Rattle.relation_folds.proofs.FieldFolding.{both_known}
 use Rattle.relation_folds.proofs.fold.predicates.NormalizesToKeyIdTypeFoldable.fold_with.Goals as goal
 
 pub returns-in_err-term-clause-steps : goal.returns-in_err-term-clause-steps

@@ -4,7 +4,7 @@ use Rattle.relation_terms.specs.Trees.{nth}
 use Rattle.relation_terms.specs.Parts.{parts_of}
 use Rattle.relation_folds.specs.Folds.{folded}
 use Rattle.relation_folds.proofs.Folding.{left_later}
-use Rattle.relation_folds.proofs.FieldFolding.{two_known}
+use Rattle.relation_terms.proofs.Predicates.{two_known}
 use Rattle.relation_folds.proofs.fold.predicates.OutlivesPredicateKeyRegionKeyKeyTypeFoldable.fold_with.Goals as goal
 
 pub returns-clause-same : goal.returns-clause-same
