@@ -136,14 +136,14 @@ some_values_namable u [] = tt
 some_values_namable u (k ∷ ks) = (some_value_namable u k, some_values_namable u ks)
 
 -- Placeholders of one universe are pairwise different.
-avoids_later : (j : BoundKind) (u m n : ℕ) (ks : List BoundKind) → m < n →
+later_placeholders : (j : BoundKind) (u m n : ℕ) (ks : List BoundKind) → m < n →
     AvoidsAll (leaf (placeholder j u m)) (placeholders_from u n ks)
-avoids_later j u m n [] h = tt
-avoids_later j u m n (k ∷ ks) h = (λ e. let q : n ≡ m = cc in omega arith, avoids_later j u m (suc n) ks (omega arith))
+later_placeholders j u m n [] h = tt
+later_placeholders j u m n (k ∷ ks) h = (λ e. let q : n ≡ m = cc in omega arith, later_placeholders j u m (suc n) ks (omega arith))
 
 pub placeholders_are : (u n : ℕ) (ks : List BoundKind) → ArePlaceholders u ks (placeholders_from u n ks)
 placeholders_are u n [] = tt
-placeholders_are u n (k ∷ ks) = ((n, refl), avoids_later k u n (suc n) ks (omega arith), placeholders_are u (suc n) ks)
+placeholders_are u n (k ∷ ks) = ((n, refl), later_placeholders k u n (suc n) ks (omega arith), placeholders_are u (suc n) ks)
 
 -- Assignments that agree give a term of the context one value.
 agree_leaf : (st : Store) (s s' : Assign) → AgreeOn st s s' → (l : Leaf) → IsMadeLeaf st l → assigned s l ≡ assigned s' l

@@ -16,5 +16,5 @@ is_left_open-requires-clause-arg_in g c =
     let below : i < count ts = omega (arith, test, inv.counts) in
     let is : arg_tree d.meaning c.arg_at-arg.result ≡ nth i ts =
     subst (λ m. arg_tree m c.arg_at-arg.result ≡ nth i (m.args c.args.args.now))
-    c.cx-3.ensures c.arg_at-arg.ensures.means ∙ ap (nth i) ((inv.grows.extends).args c.args.args.now c.requires.args_known) in
+    c.cx-in-Bivariant.ensures c.arg_at-arg.ensures.means ∙ ap (nth i) ((inv.grows.extends).args c.args.args.now c.requires.args_known) in
     subst₂ IsTermIn (sym inv.same_record) (sym is) (in_nth s.store ts i below c.requires.args_in)
