@@ -22,7 +22,7 @@ use relation_terms::terms::{Interner, ParamEnv, Span, Variance};
 pub type RelateGoals<I> = RelateResult<I, Vec<GoalOf<I>>>;
 
 /// An inference context that relates terms.
-pub trait RelateExt: InferCtxtLike + Sized {
+pub trait RelateExt: InferCtxtLike {
     /// Relates two types, or two others that can be related, at a variance, and answers the goals under which they are
     /// related: regions, constants, patterns, signatures, predicates of trait objects and lists of these, generic
     /// arguments, terms of projections, lists of arguments, pair by pair and each invariantly, trait references,
@@ -70,18 +70,7 @@ pub trait RelateExt: InferCtxtLike + Sized {
         ensures no_goals { AsksNothing Self.state self.old self.new T.over T.tree lhs rhs result }
         ensures alone { AnswersAsked Self.state self.old self.new T.over T.tree No param_env variance lhs rhs result }
         ensures taints { TaintsForError Self.state self.old self.new T.over T.tree lhs rhs result }
-        ensures asks_open { AsksIfOpen Self.state self.old self.new T.over T.tree param_env variance lhs rhs result }
-    {
-        relate_as(
-            self,
-            StructurallyRelateAliases::No,
-            param_env,
-            lhs,
-            variance,
-            rhs,
-            span,
-        )
-    }
+        ensures asks_open { AsksIfOpen Self.state self.old self.new T.over T.tree param_env variance lhs rhs result };
 
     /// Relates two at `Invariant`, aliases by their items and arguments: what `relate` relates, but that no alias is
     /// left to a goal, and none gives way to a variable where a variable is bound to what it stands in. All that
@@ -105,7 +94,61 @@ pub trait RelateExt: InferCtxtLike + Sized {
         ensures met { RelatesWhereAsked Self.state self.old self.new T.over T.tree param_env Invariant lhs rhs result }
         ensures closed { LeavesClosed Self.state self.old self.new T.over T.tree lhs rhs result }
         ensures no_goals { AsksNothing Self.state self.old self.new T.over T.tree lhs rhs result }
-        ensures taints { TaintsForError Self.state self.old self.new T.over T.tree lhs rhs result }
+        ensures taints { TaintsForError Self.state self.old self.new T.over T.tree lhs rhs result };
+}
+
+impl<Infcx: InferCtxtLike> RelateExt for Infcx {
+    fn relate<T: Relate<Infcx::Interner>>(
+        &mut self,
+        param_env: ParamEnv<Infcx::Interner>,
+        lhs: T,
+        variance: Variance,
+        rhs: T,
+        span: Span<Infcx::Interner>,
+    ) -> RelateGoals<Infcx::Interner>
+        requires can { CanRelate (Infcx.state self.old) T.over T.tree T.fits param_env variance lhs rhs }
+        ensures both { RelatesBoth Infcx.state self.old self.new T.over T.tree No param_env variance lhs rhs result }
+        ensures loses_none { LosesNone Infcx.state self.old self.new T.over T.tree variance lhs rhs result }
+        ensures fault { FaultIsTrue Infcx.state self.old self.new T.over T.tree No variance lhs rhs result }
+        ensures asks { AsksOnly Infcx.state self.old self.new T.over T.tree No param_env variance lhs rhs result }
+        ensures leaves { LeavesRest Infcx.state self.old self.new T.over T.tree lhs rhs result }
+        ensures complete { Complete Infcx.state self.old self.new T.over T.tree No param_env variance lhs rhs result }
+        ensures met { RelatesWhereAsked Infcx.state self.old self.new T.over T.tree param_env variance lhs rhs result }
+        ensures closed { LeavesClosed Infcx.state self.old self.new T.over T.tree lhs rhs result }
+        ensures no_goals { AsksNothing Infcx.state self.old self.new T.over T.tree lhs rhs result }
+        ensures alone { AnswersAsked Infcx.state self.old self.new T.over T.tree No param_env variance lhs rhs result }
+        ensures taints { TaintsForError Infcx.state self.old self.new T.over T.tree lhs rhs result }
+        ensures asks_open { AsksIfOpen Infcx.state self.old self.new T.over T.tree param_env variance lhs rhs result }
+    {
+        relate_as(
+            self,
+            StructurallyRelateAliases::No,
+            param_env,
+            lhs,
+            variance,
+            rhs,
+            span,
+        )
+    }
+
+    fn eq_structurally_relating_aliases<T: Relate<Infcx::Interner>>(
+        &mut self,
+        param_env: ParamEnv<Infcx::Interner>,
+        lhs: T,
+        rhs: T,
+        span: Span<Infcx::Interner>,
+    ) -> RelateGoals<Infcx::Interner>
+        requires can { CanRelate (Infcx.state self.old) T.over T.tree T.fits param_env Invariant lhs rhs }
+        ensures both { RelatesBoth Infcx.state self.old self.new T.over T.tree Yes param_env Invariant lhs rhs result }
+        ensures loses_none { LosesNone Infcx.state self.old self.new T.over T.tree Invariant lhs rhs result }
+        ensures fault { FaultIsTrue Infcx.state self.old self.new T.over T.tree Yes Invariant lhs rhs result }
+        ensures asks { AsksOnly Infcx.state self.old self.new T.over T.tree Yes param_env Invariant lhs rhs result }
+        ensures leaves { LeavesRest Infcx.state self.old self.new T.over T.tree lhs rhs result }
+        ensures complete { Complete Infcx.state self.old self.new T.over T.tree Yes param_env Invariant lhs rhs result }
+        ensures met { RelatesWhereAsked Infcx.state self.old self.new T.over T.tree param_env Invariant lhs rhs result }
+        ensures closed { LeavesClosed Infcx.state self.old self.new T.over T.tree lhs rhs result }
+        ensures no_goals { AsksNothing Infcx.state self.old self.new T.over T.tree lhs rhs result }
+        ensures taints { TaintsForError Infcx.state self.old self.new T.over T.tree lhs rhs result }
     {
         relate_as(
             self,
@@ -118,8 +161,6 @@ pub trait RelateExt: InferCtxtLike + Sized {
         )
     }
 }
-
-impl<Infcx: InferCtxtLike> RelateExt for Infcx {}
 
 // Relates two in a context at a variance, aliases as it says, and answers the goals.
 fn relate_as<Infcx: InferCtxtLike, T: Relate<Infcx::Interner>>(
