@@ -131,9 +131,24 @@ fn are_alike_existentials<I: Interner>(
         IsFalse result → AreAlikeExistentials (existential_tree m a.now) (existential_tree m b.now) → ⊥ }
 {
     match a {
-        ExistentialPredicate::Trait(_) => matches!(b, ExistentialPredicate::Trait(_)),
-        ExistentialPredicate::Projection(_) => matches!(b, ExistentialPredicate::Projection(_)),
-        ExistentialPredicate::AutoTrait(_) => matches!(b, ExistentialPredicate::AutoTrait(_)),
+        ExistentialPredicate::Trait(_) => {
+            let ExistentialPredicate::Trait(_) = b else {
+                return false;
+            };
+            true
+        }
+        ExistentialPredicate::Projection(_) => {
+            let ExistentialPredicate::Projection(_) = b else {
+                return false;
+            };
+            true
+        }
+        ExistentialPredicate::AutoTrait(_) => {
+            let ExistentialPredicate::AutoTrait(_) = b else {
+                return false;
+            };
+            true
+        }
     }
 }
 
