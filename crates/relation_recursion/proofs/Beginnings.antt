@@ -1,6 +1,5 @@
 -- How relating two types begins.
 use Rattle.std.proofs.Common.{◌≡◌, ◌↔◌, ℕ, Bool, true, false, refl, sym, ap, ◌∙◌, IsTrue, Option, Some, None, IfSome}
-use Rattle.std.proofs.lemmas.Bool.{false≢true}
 use Rattle.term_enums.specs.declared.Mutability.{Mutability}
 use Rattle.relation_terms.specs.Heads.{adt, alias}
 use Rattle.relation_terms.specs.Trees.{node, count}
@@ -13,9 +12,7 @@ use Rattle.relation_terms.specs.declared.terms.ids.AdtId.{AdtId}
 use Rattle.relation_terms.specs.declared.terms.alias.AliasTy.{AliasTy}
 use Rattle.relation_terms.specs.declared.terms.ty_kind.TyKind.TheVariants.{Slice, Tuple, Ref, Adt, Alias}
 use Rattle.relation_semantics.specs.Errors.{AreOfOneForm, over_parts, over_aliases}
-use Rattle.relation_semantics.specs.Parts.{IsByParts, direct_parts}
-use Rattle.relation_semantics.specs.Relation.{IsError}
-use Rattle.relation_recursion.specs.Starting.{AreOfPlainForm, Starts}
+use Rattle.relation_recursion.specs.Starting.{AreOfPlainForm}
 
 module _ {Key Id Name : Type 0} (m : Meaning Key Id Name) where
   -- Slices, tuples of one length, and references that may change as much.
@@ -66,41 +63,3 @@ module _ {Key Id Name : Type 0} (m : Meaning Key Id Name) where
       IfSome r (AreOfPlainForm (kind_tree m (Alias a)) (kind_tree m (Alias b)))
   aliases_start a b d e (Some n) u v p i j = aliases_plain a b n (sym (ap m.id u) ∙ p ∙ ap m.id v) i j
   aliases_start a b d e None u v p i j = tt
-
-  module _ (a b : TyKey Key) where
-    -- The left one is an error, or the right one, or they are of one form.
-    pub left_starts : IsError (m.ty a) →
-        Starts m a b (record { left_error = true; right_error = false; in_order = false; count = 0 })
-    left_starts e = record {
-      left_error = λ h. e;
-      right_error = λ h. absurd (false≢true h);
-      alike = λ h k. absurd (false≢true (sym h));
-      by_parts = λ h k. absurd (false≢true (sym h));
-      counted = λ h k. absurd (false≢true (sym h));
-    }
-
-    pub right_starts : IsError (m.ty b) →
-        Starts m a b (record { left_error = false; right_error = true; in_order = false; count = 0 })
-    right_starts e = record {
-      left_error = λ h. absurd (false≢true h);
-      right_error = λ h. e;
-      alike = λ h k. absurd (false≢true (sym k));
-      by_parts = λ h k. absurd (false≢true (sym k));
-      counted = λ h k. absurd (false≢true (sym k));
-    }
-
-    pub forms_start : (o : Bool) (n : ℕ) → AreOfOneForm (m.ty a) (m.ty b) → (IsTrue o ↔ IsByParts (m.ty a)) →
-        n ≡ count (direct_parts (m.ty a)) →
-        Starts m a b (record { left_error = false; right_error = false; in_order = o; count = n })
-    forms_start o n alike by_parts counted = record {
-      left_error = λ h. absurd (false≢true h);
-      right_error = λ h. absurd (false≢true h);
-      alike = λ h k. alike;
-      by_parts = λ h k. by_parts;
-      counted = λ h k. counted;
-    }
-
-    pub plain_starts : (n : ℕ) → AreOfPlainForm (m.ty a) (m.ty b) n →
-        Starts m a b (record { left_error = false; right_error = false; in_order = false; count = n })
-    plain_starts n p =
-        forms_start false n p.alike ((λ h. absurd (false≢true h)), (λ o. absurd (p.over_args o))) p.counted

@@ -1,5 +1,5 @@
 -- How relating two types begins.
-use Rattle.std.specs.Prelude.{◌≡◌, ◌↔◌, ℕ, IsTrue, IsFalse}
+use Rattle.std.specs.Prelude.{◌≡◌, ℕ}
 use Rattle.relation_terms.specs.declared.terms.keys.TyKey.{TyKey}
 use Rattle.relation_terms.specs.Meaning.{Meaning}
 use Rattle.relation_terms.specs.Trees.{Tree, count}
@@ -7,6 +7,7 @@ use Rattle.relation_semantics.specs.Errors.{AreOfOneForm}
 use Rattle.relation_semantics.specs.Parts.{IsByParts, direct_parts}
 use Rattle.relation_semantics.specs.Relation.{IsError}
 use Rattle.relation_recursion.specs.declared.starting.Start.{Start}
+use Rattle.relation_recursion.specs.declared.starting.Start.TheVariants.{Left, Right, InOrder, Over}
 
 -- Two types of one form, over generic arguments, of which each has so many.
 pub record AreOfPlainForm (t u : Tree) (n : ℕ) : Type 0 where
@@ -14,11 +15,14 @@ pub record AreOfPlainForm (t u : Tree) (n : ℕ) : Type 0 where
   pub over_args : IsByParts t → ⊥
   pub counted : n ≡ count (direct_parts t)
 
--- The left one of two types is an error, or the right one is; else they are of one form, and it is told whether they are
--- related by parts that are no generic arguments, and how many they have.
-pub record Starts {Key Id Name : Type 0} (m : Meaning Key Id Name) (a b : TyKey Key) (s : Start) : Type 0 where
-  pub left_error : IsTrue s.left_error → IsError (m.ty a)
-  pub right_error : IsTrue s.right_error → IsError (m.ty b)
-  pub alike : IsFalse s.left_error → IsFalse s.right_error → AreOfOneForm (m.ty a) (m.ty b)
-  pub by_parts : IsFalse s.left_error → IsFalse s.right_error → (IsTrue s.in_order ↔ IsByParts (m.ty a))
-  pub counted : IsFalse s.left_error → IsFalse s.right_error → s.count ≡ count (direct_parts (m.ty a))
+-- Two types of one form, with parts that are no generic arguments.
+pub record AreByParts (t u : Tree) : Type 0 where
+  pub alike : AreOfOneForm t u
+  pub by_parts : IsByParts t
+
+-- The left one of two types is an error, or the right one is; else they are of one form.
+abbrev pub Starts : {Key Id Name : Type 0} → Meaning Key Id Name → TyKey Key → TyKey Key → Start → Type 0
+Starts m a b Left = IsError (m.ty a)
+Starts m a b Right = IsError (m.ty b)
+Starts m a b InOrder = AreByParts (m.ty a) (m.ty b)
+Starts m a b (Over n) = AreOfPlainForm (m.ty a) (m.ty b) n

@@ -1,7 +1,6 @@
 //! Opening binders that are parts of terms.
-ghost use Rattle.std.specs.Prelude.{◌≡◌, ◌≢◌, ◌<◌, None, IfOk, IfSome, IsTrue};
+ghost use Rattle.std.specs.Prelude.{◌≡◌, ◌≢◌, ◌<◌, None, IfOk, IfSome};
 ghost use Rattle.relation_terms.specs.Parts.{part_tree, part_sort};
-ghost use Rattle.relation_terms.specs.Trees.{known};
 ghost use Rattle.term_enums.specs.declared.Variance.TheVariants.{Bivariant};
 ghost use Rattle.relation_semantics.specs.Parts.{IsBinderPart, IsRelatedPart, ArePaired};
 ghost use Rattle.relation_steps.specs.Rounds.{OpenedParts};
@@ -9,25 +8,10 @@ ghost use Rattle.relation_steps.specs.Terms.{AskedTerms};
 
 use relation_folds::error::RelateResult;
 use relation_steps::type_relation::TypeRelation;
-use relation_terms::terms::parts::is_same;
 use relation_terms::terms::{Binder, Body, Interner, Part, PartOf};
 
 // Two parts of an interner's terms.
 pub(crate) type TwoParts<I> = (PartOf<I>, PartOf<I>);
-
-// Whether two binders are one, as far as their keys tell.
-pub(crate) fn is_same_of<I: Interner, R: TypeRelation<I>>(
-    r: &R,
-    a: &PartOf<I>,
-    b: &PartOf<I>,
-) -> bool
-    requires a_known { IsTrue (known (part_tree (R.state r.now).meaning a.now)) }
-    requires b_known { IsTrue (known (part_tree (R.state r.now).meaning b.now)) }
-    requires same_sort { part_sort b.now ≡ part_sort a.now }
-    ensures { let m = (R.state r.now).meaning in IsTrue result → part_tree m a.now ≡ part_tree m b.now }
-{
-    is_same(r.cx(), a, b)
-}
 
 // The bodies of two binders, as parts, that are to be related in a round.
 pub(crate) fn open_bodies<I: Interner, R: TypeRelation<I>>(

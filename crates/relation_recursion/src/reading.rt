@@ -1,18 +1,18 @@
 //! Reading terms through a relation's interner.
-ghost use Rattle.std.specs.Prelude.{◌≡◌, ◌≢◌, ◌↔◌, ◌<◌, None, IsTrue, OnOk, IfOk, IfErr};
+ghost use Rattle.std.specs.Prelude.{◌≡◌, ◌≢◌, ◌↔◌, ◌<◌, None, IsTrue, IfErr};
 ghost use Rattle.relation_terms.specs.Trees.{known, count, nth, IsList};
 ghost use Rattle.term_enums.specs.declared.Variance.TheVariants.{Bivariant};
 ghost use Rattle.relation_terms.specs.Meaning.{arg_tree};
 ghost use Rattle.relation_terms.specs.Parts.{part_tree, part_sort};
 ghost use Rattle.relation_semantics.specs.Relation.{IsError};
-ghost use Rattle.relation_semantics.specs.Errors.{ConstFormError, AreOfOneForm, AreOfOneConst, HaveNoError};
-ghost use Rattle.relation_semantics.specs.Parts.{IsFormedConst, IsByParts, IsComparedPart, direct_parts, const_parts_of};
+ghost use Rattle.relation_semantics.specs.Errors.{AreOfOneForm};
+ghost use Rattle.relation_semantics.specs.Parts.{IsByParts, direct_parts, const_parts_of};
 ghost use Rattle.relation_steps.specs.Keyed.{ShownTys, NotedTys, TysAskOpen, AreOver};
 ghost use Rattle.relation_steps.specs.Terms.{AskedTerms};
-ghost use Rattle.relation_recursion.specs.Comparing.{AreOfOneFormBy, PartsDiffer, nth_part, nth_const_part};
+ghost use Rattle.relation_recursion.specs.Comparing.{PartsDiffer, nth_part, nth_const_part};
 ghost use Rattle.part_variances.specs.PartErrors.{named_place};
 
-use crate::comparing::{compare_consts, compare_members, compare_parts};
+use crate::comparing::compare_members;
 use crate::parts::{parts_in, related_part};
 use part_variances::part_errors;
 use relation_folds::error::{RelateResult, TypeErrorOf};
@@ -28,37 +28,6 @@ pub(crate) fn is_error_const_of<I: Interner, R: TypeRelation<I>>(r: &R, constant
     ensures { IsTrue result ↔ IsError ((R.state r.now).meaning.const_ constant.now) }
 {
     matches!(r.cx().const_kind(constant), ConstKind::Error(_))
-}
-
-pub(crate) fn compare_consts_of<I: Interner, R: TypeRelation<I>>(
-    r: &R,
-    a: &Const<I>,
-    b: &Const<I>,
-) -> Result<(), TypeErrorOf<I>>
-    requires a_known { IsTrue (known ((R.state r.now).meaning.const_ a.now)) }
-    requires b_known { IsTrue (known ((R.state r.now).meaning.const_ b.now)) }
-    requires a_formed { IsFormedConst ((R.state r.now).meaning.const_ a.now) }
-    requires b_formed { IsFormedConst ((R.state r.now).meaning.const_ b.now) }
-    requires no_error { HaveNoError ((R.state r.now).meaning.const_ a.now) ((R.state r.now).meaning.const_ b.now) }
-    ensures alike { let m = (R.state r.now).meaning in OnOk result (AreOfOneConst (m.const_ a.now) (m.const_ b.now)) }
-    ensures errors { IfErr result (ConstFormError (R.state r.now).meaning a.now b.now) }
-{
-    compare_consts(r.cx(), a, b)
-}
-
-pub(crate) fn compare_parts_of<I: Interner, R: TypeRelation<I>>(
-    r: &R,
-    a: &PartOf<I>,
-    b: &PartOf<I>,
-) -> Result<(), TypeErrorOf<I>>
-    requires a_known { IsTrue (known (part_tree (R.state r.now).meaning a.now)) }
-    requires b_known { IsTrue (known (part_tree (R.state r.now).meaning b.now)) }
-    requires kind { IsComparedPart a.now }
-    requires one_sort { part_sort b.now ≡ part_sort a.now }
-    ensures alike { OnOk result (AreOfOneFormBy part_tree (R.state r.now).meaning a.now b.now) }
-    ensures errors { IfErr result (PartsDiffer (R.state r.now).meaning a.now b.now) }
-{
-    compare_parts(r.cx(), a, b)
 }
 
 pub(crate) fn compare_members_of<I: Interner, R: TypeRelation<I>>(

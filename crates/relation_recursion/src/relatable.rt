@@ -16,12 +16,13 @@ mod forms;
 mod predicates;
 
 use crate::args::relate_args_invariantly;
-use crate::structural::{consts, pats, relate, tys};
+use crate::structural::{consts, relate, relate_parts, tys};
 use relation_folds::error::{RelateFault, RelateResult, TypeError};
 use relation_folds::fold::TypeFoldable;
 use relation_steps::type_relation::TypeRelation;
+use relation_terms::terms::parts::expect_pat;
 use relation_terms::terms::{
-    ArgsKey, ConstKey, GenericArgKind, Interner, PatKey, RegionKey, TermKind, TyKey,
+    ArgsKey, ConstKey, GenericArgKind, Interner, Part, PatKey, RegionKey, TermKind, TyKey,
 };
 
 /// What can be related: types, regions, constants, patterns, generic arguments and terms, and lists of arguments;
@@ -99,8 +100,10 @@ impl<I: Interner> Relate<I> for ConstKey<I::Key> {
 }
 
 impl<I: Interner> Relate<I> for PatKey<I::Key> {
+    /// Ranges by start, then end; alternatives pair by pair. Two of different forms, or with unlike numbers of
+    /// alternatives, are `Mismatch`. Upstream this is the interner's.
     fn relate<R: TypeRelation<I>>(r: &mut R, a: &Self, b: &Self) -> RelateResult<I, Self> {
-        pats(r, a, b)
+        Ok(expect_pat(&relate_parts(r, &Part::Pat(*a), &Part::Pat(*b))?))
     }
 
     ghost over_list = { tt };

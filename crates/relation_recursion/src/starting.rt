@@ -15,13 +15,13 @@ use relation_terms::terms::{GenericArgs, Interner, Ty, TyForm, TyKind, Tys};
 
 // What two types are to relating.
 #[derive(Clone, Copy)]
-pub(crate) struct Start {
-    // Whether the left one is an error, and if not, whether the right one is.
-    pub left_error: bool,
-    pub right_error: bool,
-    // Of others, whether they are related by parts that are no generic arguments, and how many parts each has.
-    pub in_order: bool,
-    pub count: usize,
+pub(crate) enum Start {
+    // The left one is an error; or else the right one is.
+    Left,
+    Right,
+    // Of others, they are related by parts that are no generic arguments; or over so many that are.
+    InOrder,
+    Over(usize),
 }
 
 // The length of two lists of types, where they have one.
@@ -125,28 +125,18 @@ fn start_of_any<I: Interner>(cx: &I, a: &Ty<I>, b: &Ty<I>) -> Result<Start, Type
     ensures errors { IfErr result (FormError (I.meaning cx.now) a.now b.now) }
 {
     if is_error(cx, a) {
-        return Ok(Start {
-            left_error: true,
-            right_error: false,
-            in_order: false,
-            count: 0,
-        });
+        return Ok(Start::Left);
     }
     if is_error(cx, b) {
-        return Ok(Start {
-            left_error: false,
-            right_error: true,
-            in_order: false,
-            count: 0,
-        });
+        return Ok(Start::Right);
     }
     match compare_tys(cx, a, b) {
-        Ok(()) => Ok(Start {
-            left_error: false,
-            right_error: false,
-            in_order: is_by_parts(cx, a),
-            count: parts_count(cx, a),
-        }),
+        Ok(()) => {
+            if is_by_parts(cx, a) {
+                return Ok(Start::InOrder);
+            }
+            Ok(Start::Over(parts_count(cx, a)))
+        }
         Err(error) => Err(error),
     }
 }
@@ -167,12 +157,7 @@ pub(crate) fn start_of<I: Interner, R: TypeRelation<I>>(
     let a_kind = cx.ty_kind(a);
     let b_kind = cx.ty_kind(b);
     match plain_count(cx, &a_kind, &b_kind) {
-        Some(count) => Ok(Start {
-            left_error: false,
-            right_error: false,
-            in_order: false,
-            count,
-        }),
+        Some(count) => Ok(Start::Over(count)),
         None => start_of_any(cx, a, b),
     }
 }

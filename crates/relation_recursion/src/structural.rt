@@ -1,42 +1,39 @@
 //! The recursion over every relation.
 //!
 //! These calls stand beside the relation, whose steps never call them: one proof serves all relations.
-ghost use Rattle.std.specs.Prelude.{◌≡◌, ◌≢◌, Some, None, IfOk, OnOk};
+ghost use Rattle.std.specs.Prelude.{◌≡◌, ◌≢◌, None, IfOk, OnOk};
 ghost use Rattle.term_enums.specs.declared.Variance.TheVariants.{Bivariant};
 ghost use Rattle.term_enums.specs.Variances.{xform};
-ghost use Rattle.relation_terms.specs.Heads.{object};
-ghost use Rattle.relation_terms.specs.Meaning.{arg_tree, signature_tree, existential_tree};
+ghost use Rattle.relation_terms.specs.Meaning.{arg_tree, existential_tree};
 ghost use Rattle.relation_terms.specs.Parts.{part_tree, part_sort};
 ghost use Rattle.relation_semantics.specs.Parts.{IsRigid, IsFormedConst, IsByParts, IsRelatedPart, IsComparedPart};
 ghost use Rattle.relation_semantics.specs.Parts.{IsBinderPart, ArePaired};
 ghost use Rattle.relation_semantics.specs.Making.{arg_sort};
 ghost use Rattle.relation_steps.specs.Arguments.{IsSkipped};
 ghost use Rattle.relation_steps.specs.Keyed.{TysAskOpen};
-ghost use Rattle.relation_recursion.specs.Comparing.{AreOfOneFormBy, object_members};
+ghost use Rattle.relation_recursion.specs.Comparing.{AreOfOneFormBy};
 ghost use Rattle.relation_recursion.specs.PredicateForms.{predicate_form, form_of_part};
 ghost use Rattle.relation_steps.specs.Terms.{AskedTerms, AskedAt, RelatedTerms, RelatedAt, RelatedTermForms};
 ghost use Rattle.relation_steps.specs.Terms.{TermsRegister};
 
+use crate::comparing::{compare_consts, compare_parts};
 use crate::keeping::{keep_answer, keep_const_answer, keep_term_answer, no_answers};
 use crate::making::{make_const, make_part, make_ty};
-use crate::opening::{is_same_of, open_bodies};
-use crate::parts::{PartKind, expect_object, kind_of_part};
+use crate::opening::open_bodies;
+use crate::parts::{PartKind, kind_of_part};
 use crate::reading::{
-    compare_consts_of, compare_members_of, compare_parts_of, const_part_of, const_parts_count_of,
-    is_error_const_of, named_place_of, note_args, part_of, term_part_of, term_parts_count_of,
+    compare_members_of, const_part_of, const_parts_count_of, is_error_const_of, named_place_of,
+    note_args, part_of, term_part_of, term_parts_count_of,
 };
-use crate::starting::start_of;
+use crate::starting::{Start, start_of};
 use part_variances::variances::{const_variance_at, is_skipped, term_variance_at, variance_at};
 use relation_folds::error::{RelateFault, RelateResult, TypeError};
 use relation_semantics::relate::Step;
 use relation_steps::type_relation::TypeRelation;
 use relation_terms::predicate::ExistentialPredicate;
-use relation_terms::terms::parts::{
-    expect_arg, expect_existential, expect_pat, expect_signature, expect_ty, of_arg,
-};
+use relation_terms::terms::parts::{expect_arg, expect_existential, expect_ty, is_same, of_arg};
 use relation_terms::terms::{
-    Const, ExistentialPredicates, FnSig, GenericArg, GenericArgKind, Interner, Part, PartOf, Pat,
-    Ty, Variance,
+    Const, GenericArg, GenericArgKind, Interner, Part, PartOf, Ty, Variance,
 };
 
 /// Relates two types at the ambient variance, as the relation's steps lead: what a step answers is the answer; two
@@ -225,19 +222,14 @@ pub fn structurally_relate_tys<I: Interner, R: TypeRelation<I>>(
     ensures asks { TysAskOpen R.manner (R.state r.old) (R.state r.new) a.now b.now result }
 {
     let start = start_of::<I, R>(r, a, b)?;
-    let is_left = start.left_error;
-    if is_left {
-        return Ok(*a);
-    }
-    let is_right = start.right_error;
-    if is_right {
-        return Ok(*b);
-    }
-    let in_order = start.in_order;
-    if in_order {
-        return Ok(expect_ty(&relate_in_order(r, &Part::Ty(*a), &Part::Ty(*b))?));
-    }
-    let n = start.count;
+    let n = match start {
+        Start::Left => return Ok(*a),
+        Start::Right => return Ok(*b),
+        Start::InOrder => {
+            return Ok(expect_ty(&relate_in_order(r, &Part::Ty(*a), &Part::Ty(*b))?));
+        }
+        Start::Over(count) => count,
+    };
     let mut answers = no_answers::<I, R, GenericArg<I>>(r);
     for i in 0..n {
         let x = part_of::<I, R>(r, a, i);
@@ -279,7 +271,7 @@ pub fn structurally_relate_consts<I: Interner, R: TypeRelation<I>>(
     if is_error_const_of::<I, R>(r, b) {
         return Ok(*b);
     }
-    compare_consts_of::<I, R>(r, a, b)?;
+    compare_consts(r.cx(), a, b)?;
     let n = const_parts_count_of::<I, R>(r, a);
     let mut answers = no_answers::<I, R, GenericArg<I>>(r);
     for i in 0..n {
@@ -293,43 +285,6 @@ pub fn structurally_relate_consts<I: Interner, R: TypeRelation<I>>(
         return Ok(*a);
     }
     make_const(r, a, answers.as_slice())
-}
-
-/// Relates two patterns at the ambient variance, and answers the left one's form over what its parts answered: ranges
-/// by start, then end; alternatives pair by pair.
-///
-/// Conditions are those of `tys`. Two of different forms, or with unlike numbers of alternatives, are `Mismatch`. All
-/// errors of the parts are handed on. Upstream this is the interner's `relate` of patterns.
-pub fn pats<I: Interner, R: TypeRelation<I>>(
-    r: &mut R,
-    a: &Pat<I>,
-    b: &Pat<I>,
-) -> RelateResult<I, Pat<I>>
-    requires lawful { (R.state r.old).lawful }
-    requires decides { (R.state r.old).ambient ≢ Bivariant }
-    requires asked { AskedTerms R.manner None (λ m. m.pat) (R.state r.old) a.now b.now }
-    ensures { RelatedTerms R.manner None (λ m. m.pat) (R.state r.old) (R.state r.new) a.now b.now result }
-{
-    Ok(expect_pat(&relate_parts(r, &Part::Pat(*a), &Part::Pat(*b))?))
-}
-
-/// Relates two signatures at the ambient variance, and answers the left one's header over what its types answered: the
-/// inputs in order, contravariantly, then the output.
-///
-/// Conditions are those of `tys`. Answers `VariadicMismatch`, `SafetyMismatch`, `AbiMismatch` or `ArgCount`, by the
-/// first in which they differ, before any type is looked at. All errors of the types are handed on, with the place
-/// where they can name one: of the output that is the number of inputs. Upstream this is the `relate` of signatures.
-pub fn signatures<I: Interner, R: TypeRelation<I>>(
-    r: &mut R,
-    a: &FnSig<I::Key>,
-    b: &FnSig<I::Key>,
-) -> RelateResult<I, FnSig<I::Key>>
-    requires lawful { (R.state r.old).lawful }
-    requires decides { (R.state r.old).ambient ≢ Bivariant }
-    requires asked { AskedTerms R.manner None signature_tree (R.state r.old) a.now b.now }
-    ensures { RelatedTerms R.manner None signature_tree (R.state r.old) (R.state r.new) a.now b.now result }
-{
-    Ok(expect_signature(&relate_parts(r, &Part::Signature(*a), &Part::Signature(*b))?))
 }
 
 /// Relates two predicates of trait objects at the ambient variance, and answers the left one's form over what its parts
@@ -350,25 +305,6 @@ pub fn existentials<I: Interner, R: TypeRelation<I>>(
     ensures form { IfOk result (λ p. predicate_form p ≡ predicate_form a.now) }
 {
     Ok(expect_existential(&relate_parts(r, &Part::Existential(*a), &Part::Existential(*b))?))
-}
-
-/// Relates two lists of predicates of trait objects at the ambient variance, as the form over them: pair by pair, as
-/// they are stored, each under its binder. Answers the list of what they answered.
-///
-/// Conditions are those of `tys`. Answers `ExistentialMismatch` of both for lists of unlike lengths, before any pair is
-/// looked at, and for a pair of different forms, as it comes. All errors of the pairs are handed on. Upstream this is
-/// the interner's `relate` of such lists.
-pub fn objects<I: Interner, R: TypeRelation<I>>(
-    r: &mut R,
-    a: &ExistentialPredicates<I>,
-    b: &ExistentialPredicates<I>,
-) -> RelateResult<I, ExistentialPredicates<I>>
-    requires lawful { (R.state r.old).lawful }
-    requires decides { (R.state r.old).ambient ≢ Bivariant }
-    requires asked { AskedTerms R.manner (Some object) object_members (R.state r.old) a.now b.now }
-    ensures { RelatedTerms R.manner (Some object) object_members (R.state r.old) (R.state r.new) a.now b.now result }
-{
-    Ok(expect_object(&relate_parts(r, &Part::Object(*a), &Part::Object(*b))?))
 }
 
 // Relates two terms of one form by their parts, in order, each at the variance of its place, and answers the form over
@@ -434,7 +370,7 @@ fn relate_parts_with_variance<I: Interner, R: TypeRelation<I>>(
 // Relates two parts of terms: generic arguments, whose kinds may differ, binders, or others of one sort. Of these an
 // answer says that they are of one form, with as many parts.
 #[cycle(relate)]
-fn relate_parts<I: Interner, R: TypeRelation<I>>(
+pub(crate) fn relate_parts<I: Interner, R: TypeRelation<I>>(
     r: &mut R,
     a: &PartOf<I>,
     b: &PartOf<I>,
@@ -456,7 +392,7 @@ fn relate_parts<I: Interner, R: TypeRelation<I>>(
         }
         PartKind::Binder => binders(r, a, b),
         PartKind::Form => {
-            compare_parts_of::<I, R>(r, a, b)?;
+            compare_parts(r.cx(), a, b)?;
             relate_in_order(r, a, b)
         }
     }
@@ -479,7 +415,7 @@ fn binders<I: Interner, R: TypeRelation<I>>(
     ensures related { RelatedTerms R.manner None part_tree (R.state r.old) (R.state r.new) a.now b.now result }
     ensures sort { IfOk result (λ p. part_sort p ≡ part_sort a.now) }
 {
-    if is_same_of::<I, R>(r, a, b) {
+    if is_same(r.cx(), a, b) {
         return Ok(*a);
     }
     let Some((x, y)) = open_bodies(r, a, b, 0)? else {

@@ -4,18 +4,21 @@ ghost use Rattle.std.proofs.Common.{refl};
 ghost use Rattle.relation_terms.specs.Heads.{object};
 ghost use Rattle.relation_recursion.specs.EqualForms.{signature_same, predicate_same, trait_same, projection_same};
 
+use crate::parts::expect_object;
 use crate::relatable::Relate;
-use crate::structural::{existentials, objects, signatures};
+use crate::structural::{existentials, relate_parts};
 use relation_folds::error::RelateResult;
 use relation_steps::type_relation::TypeRelation;
 use relation_terms::predicate::{ExistentialPredicate, ExistentialProjection, ExistentialTraitRef};
-use relation_terms::terms::{ExistentialPredicatesKey, FnSig, Interner};
+use relation_terms::terms::parts::expect_signature;
+use relation_terms::terms::{ExistentialPredicatesKey, FnSig, Interner, Part};
 
 impl<I: Interner> Relate<I> for FnSig<I::Key> {
     /// The inputs in order, contravariantly, then the output. Signatures that differ besides their types are
-    /// `VariadicMismatch`, `SafetyMismatch`, `AbiMismatch` or `ArgCount`, by the first in which they differ.
+    /// `VariadicMismatch`, `SafetyMismatch`, `AbiMismatch` or `ArgCount`, by the first in which they differ, before any
+    /// type is looked at. Errors of the types name the place where they can: of the output the number of inputs.
     fn relate<R: TypeRelation<I>>(r: &mut R, a: &Self, b: &Self) -> RelateResult<I, Self> {
-        signatures(r, a, b)
+        Ok(expect_signature(&relate_parts(r, &Part::Signature(*a), &Part::Signature(*b))?))
     }
 
     ghost over_list = { tt };
@@ -86,10 +89,11 @@ impl<I: Interner> Relate<I> for ExistentialProjection<I::Key, I::Id> {
 impl<I: Interner> Relate<I> for ExistentialPredicatesKey<I::Key> {
     ghost over = { Some object };
 
-    /// Pair by pair, as they are stored, each under its binder. Two of unlike lengths, or with predicates of different
-    /// forms at a place, are `ExistentialMismatch`.
+    /// Pair by pair, as they are stored, each under its binder. Two of unlike lengths are `ExistentialMismatch` of both
+    /// before any pair is looked at, two with predicates of different forms at a place as that pair comes. Upstream this
+    /// is the interner's.
     fn relate<R: TypeRelation<I>>(r: &mut R, a: &Self, b: &Self) -> RelateResult<I, Self> {
-        objects(r, a, b)
+        Ok(expect_object(&relate_parts(r, &Part::Object(*a), &Part::Object(*b))?))
     }
 
     ghost over_list = { tt };

@@ -2,7 +2,7 @@
 ghost use Rattle.std.specs.Prelude.{◌≡◌, ◌≢◌, IfOk, None};
 ghost use Rattle.std.proofs.Common.{refl};
 ghost use Rattle.term_enums.specs.declared.Variance.TheVariants.{Bivariant};
-ghost use Rattle.relation_terms.specs.Predicates.{alias_term_tree, trait_ref_tree};
+ghost use Rattle.relation_terms.specs.Predicates.{alias_term_tree};
 ghost use Rattle.relation_recursion.specs.EqualItems.{trait_ref_same, trait_clause_same, alias_term_same};
 ghost use Rattle.relation_recursion.specs.EqualItems.{kinds_declared, alias_ty_same, ty_kinds_declared};
 ghost use Rattle.relation_steps.specs.Terms.{AskedTerms, RelatedTerms};
@@ -15,25 +15,6 @@ use relation_steps::arguments::ArgVariances;
 use relation_steps::type_relation::TypeRelation;
 use relation_terms::predicate::{AliasTerm, TraitPredicate, TraitRef};
 use relation_terms::terms::{AliasTy, Interner};
-
-// Relates two trait references, and answers the left one's trait over what the arguments answered.
-fn trait_refs<I: Interner, R: TypeRelation<I>>(
-    r: &mut R,
-    a: &TraitRef<I::Key, I::Id>,
-    b: &TraitRef<I::Key, I::Id>,
-) -> RelateResult<I, TraitRef<I::Key, I::Id>>
-    requires lawful { (R.state r.old).lawful }
-    requires decides { (R.state r.old).ambient ≢ Bivariant }
-    requires asked { AskedTerms R.manner None trait_ref_tree (R.state r.old) a.now b.now }
-    ensures { RelatedTerms R.manner None trait_ref_tree (R.state r.old) (R.state r.new) a.now b.now result }
-{
-    compare_trait_refs(r.cx(), a, b)?;
-    let args = relate_args(r, &ArgVariances::Trait(a.def_id), &a.args, &b.args)?;
-    Ok(TraitRef {
-        def_id: a.def_id,
-        args,
-    })
-}
 
 // Relates two alias terms, and answers the left one's kind over what the arguments answered.
 fn alias_terms<I: Interner, R: TypeRelation<I>>(
@@ -56,7 +37,12 @@ impl<I: Interner> Relate<I> for TraitRef<I::Key, I::Id> {
     /// Two of different traits are `Traits`, and two with unlike numbers of arguments `Mismatch`. The arguments are
     /// related pair by pair, invariantly.
     fn relate<R: TypeRelation<I>>(r: &mut R, a: &Self, b: &Self) -> RelateResult<I, Self> {
-        trait_refs(r, a, b)
+        compare_trait_refs(r.cx(), a, b)?;
+        let args = relate_args(r, &ArgVariances::Trait(a.def_id), &a.args, &b.args)?;
+        Ok(TraitRef {
+            def_id: a.def_id,
+            args,
+        })
     }
 
     ghost over_list = { tt };
@@ -107,7 +93,7 @@ impl<I: Interner> Relate<I> for TraitPredicate<I::Key, I::Id> {
     /// The trait references are related first. Where they are, two of unlike polarities are `PolarityMismatch`; what was
     /// bound on the way stays bound.
     fn relate<R: TypeRelation<I>>(r: &mut R, a: &Self, b: &Self) -> RelateResult<I, Self> {
-        let trait_ref = trait_refs(r, &a.trait_ref, &b.trait_ref)?;
+        let trait_ref = TraitRef::relate(r, &a.trait_ref, &b.trait_ref)?;
         if a.polarity != b.polarity {
             let pair = ExpectedFound::new(a.polarity, b.polarity);
             return Err(RelateFault::Unrelated(TypeError::PolarityMismatch(pair)));

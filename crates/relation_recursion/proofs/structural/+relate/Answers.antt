@@ -14,7 +14,7 @@ use Rattle.relation_folds.specs.declared.error.TypeError.TheVariants.{Mismatch}
 use Rattle.relation_folds.specs.declared.error.RelateFault.TheVariants.{Unrelated, Memory}
 use Rattle.relation_semantics.specs.Relation.{part_at}
 use Rattle.relation_semantics.specs.AskedAlone.{AsksNoneAlone}
-use Rattle.relation_semantics.specs.Errors.{AreOfOneForm, IsDeferred, PartError}
+use Rattle.relation_semantics.specs.Errors.{AreOfOneForm, AreOfOneConst, ConstFormError, IsDeferred, PartError}
 use Rattle.relation_semantics.specs.Parts.{IsRigid, IsFormedConst, IsByParts, IsRelatedPart, IsComparedPart, IsArgPart}
 use Rattle.relation_semantics.specs.Parts.{IsBinderPart, ArePaired, direct_parts, const_parts_of, head_of}
 use Rattle.relation_semantics.specs.Parts.{const_head_of}
@@ -60,6 +60,8 @@ use Rattle.relation_recursion.proofs.Looping.{failed_ty, failed_const, kept_ty, 
 use Rattle.relation_recursion.proofs.Kept.{kept_answers, kept_fit, kept_fit_parts, some_kept, none_kept_yet}
 use Rattle.relation_recursion.proofs.Kept.{kept_in, failed_in, answer_known}
 use Rattle.relation_recursion.specs.Keeping.{KeepsAnswer}
+use Rattle.relation_recursion.specs.Starting.{Starts}
+use Rattle.relation_recursion.specs.Comparing.{PartsDiffer}
 use Rattle.relation_recursion.proofs.Looping.{failed_part, kept_part}
 use Rattle.relation_steps.specs.Alone.{RelatesAtOnce, StepsAtOnce}
 use Rattle.relation_recursion.proofs.Alone.{formed_ask_none, left_none, right_none, lifetime_none, const_none, no_ty_none, refused_told}
@@ -895,14 +897,14 @@ structurally_relate_consts-returns-then-is_error_const_of-2 g t c =
     (sorted.const_ c.args.a.now k.left_known) (sorted.const_ c.args.b.now k.right_known) refl k.right_known
     (c.is_error_const_of-2.ensures.0 c.if-is_error_const_of-2.true)
 
-pub structurally_relate_consts-compare_consts_of-requires-clause-no_error : goal.structurally_relate_consts-compare_consts_of-requires-clause-no_error
-structurally_relate_consts-compare_consts_of-requires-clause-no_error g t c = (
+pub structurally_relate_consts-compare_consts-requires-clause-no_error : goal.structurally_relate_consts-compare_consts-requires-clause-no_error
+structurally_relate_consts-compare_consts-requires-clause-no_error g t c = (
   (λ h. false≢true (sym c.if-is_error_const_of.false ∙ c.is_error_const_of.ensures.1 h)),
   λ h. false≢true (sym c.if-is_error_const_of-2.false ∙ c.is_error_const_of-2.ensures.1 h),
 )
 
-pub structurally_relate_consts-returns-in_err-compare_consts_of : goal.structurally_relate_consts-returns-in_err-compare_consts_of
-structurally_relate_consts-returns-in_err-compare_consts_of g t c =
+pub structurally_relate_consts-returns-in_err-compare_consts : goal.structurally_relate_consts-returns-in_err-compare_consts
+structurally_relate_consts-returns-in_err-compare_consts g t c =
     let r = g.R.HasState.state c.args.r.now in
     let M = g.R.TypeRelation.manner in
     let a = (r.meaning).const_ c.args.a.now in
@@ -910,13 +912,13 @@ structurally_relate_consts-returns-in_err-compare_consts_of g t c =
     let e = g.met.R.TypeRelation.reads c.args.r.now in
     let cx = g.R.TypeRelation.interner c.args.r.now in
     let sorted : Sorted r.meaning = subst (λ m. Sorted m) (sym e) (g.met.I.Interner.sorted cx) in
-    let n = c.in_err-compare_consts_of in
+    let n = c.in_err-compare_consts in
     let k = c.requires.asked in
     let failed = as_err c.from_residual.result (Unrelated n.field-0.0) c.from_residual.ensures.0 c.from_residual.ensures.1 in
     subst (λ z. RelatedForms M r r r.ambient a b (r.meaning).const_ z) (sym failed)
     (consts_differ M r r.ambient (r.meaning).const_ c.args.a.now c.args.b.now n.field-0.0 c.requires.decides c.requires.a_formed c.requires.b_formed
     (sorted.const_ c.args.a.now k.left_known) (sorted.const_ c.args.b.now k.right_known) k.left_known k.right_known
-    (n.ensures).errors)
+    (subst (λ m. ConstFormError m c.args.a.now c.args.b.now n.field-0.0) c.cx.ensures (n.ensures).errors))
 
 pub structurally_relate_consts-loop-i-init : goal.structurally_relate_consts-loop-i-init
 structurally_relate_consts-loop-i-init g t c =
@@ -928,7 +930,8 @@ structurally_relate_consts-loop-i-init g t c =
     let cx = g.R.TypeRelation.interner c.args.r.now in
     let sorted : Sorted r.meaning = subst (λ m. Sorted m) (sym e) (g.met.I.Interner.sorted cx) in
     let k = c.requires.asked in
-    let alike = (c.in_ok-compare_consts_of.ensures).alike in
+    let alike = subst (λ m. AreOfOneConst (m.const_ c.args.a.now) (m.const_ c.args.b.now)) c.cx.ensures
+    (c.in_ok-compare_consts.ensures).alike in
     record {
       lawful = c.requires.lawful;
       fronted = fronted_none g.R.TypeRelation.manner r (const_head_of a) r.ambient (const_parts_of a) (const_parts_of b);
@@ -960,7 +963,8 @@ structurally_relate_consts-relate_with_variance-related-requires g t c κs withi
     let extends = ((inv.fronted).passes).extends in
     let same_a : (q.meaning).const_ c.args.a.now ≡ a = extends.const_ c.args.a.now k.left_known in
     let same_b : (q.meaning).const_ c.args.b.now ≡ b = extends.const_ c.args.b.now k.right_known in
-    let alike = (c.in_ok-compare_consts_of.ensures).alike in
+    let alike = subst (λ m. AreOfOneConst (m.const_ c.args.a.now) (m.const_ c.args.b.now)) c.cx.ensures
+    (c.in_ok-compare_consts.ensures).alike in
     let test = c.loop-i-test.true in
     let lx : i < count (const_parts_of a) = omega (arith, test, inv.left_count) in
     let ly : i < count (const_parts_of b) = omega (arith, test, inv.right_count) in
@@ -998,7 +1002,8 @@ structurally_relate_consts-returns-in_err-keep_const_answer g t c =
     let extends = ((inv.fronted).passes).extends in
     let same_a : (q.meaning).const_ c.args.a.now ≡ a = extends.const_ c.args.a.now k.left_known in
     let same_b : (q.meaning).const_ c.args.b.now ≡ b = extends.const_ c.args.b.now k.right_known in
-    let alike = (c.in_ok-compare_consts_of.ensures).alike in
+    let alike = subst (λ m. AreOfOneConst (m.const_ c.args.a.now) (m.const_ c.args.b.now)) c.cx.ensures
+    (c.in_ok-compare_consts.ensures).alike in
     let test = c.loop-i-test.true in
     let lx : i < count (const_parts_of a) = omega (arith, test, inv.left_count) in
     let ly : i < count (const_parts_of b) = omega (arith, test, inv.right_count) in
@@ -1058,7 +1063,8 @@ structurally_relate_consts-loop-i-preserved g t c =
     let extends = ((inv.fronted).passes).extends in
     let same_a : (q.meaning).const_ c.args.a.now ≡ a = extends.const_ c.args.a.now k.left_known in
     let same_b : (q.meaning).const_ c.args.b.now ≡ b = extends.const_ c.args.b.now k.right_known in
-    let alike = (c.in_ok-compare_consts_of.ensures).alike in
+    let alike = subst (λ m. AreOfOneConst (m.const_ c.args.a.now) (m.const_ c.args.b.now)) c.cx.ensures
+    (c.in_ok-compare_consts.ensures).alike in
     let test = c.loop-i-test.true in
     let lx : i < count (const_parts_of a) = omega (arith, test, inv.left_count) in
     let ly : i < count (const_parts_of b) = omega (arith, test, inv.right_count) in
@@ -1143,7 +1149,8 @@ structurally_relate_consts-returns-then-is_empty g t c =
     let extends = ((inv.fronted).passes).extends in
     let same_a : (q.meaning).const_ c.args.a.now ≡ a = extends.const_ c.args.a.now k.left_known in
     let same_b : (q.meaning).const_ c.args.b.now ≡ b = extends.const_ c.args.b.now k.right_known in
-    let alike = (c.in_ok-compare_consts_of.ensures).alike in
+    let alike = subst (λ m. AreOfOneConst (m.const_ c.args.a.now) (m.const_ c.args.b.now)) c.cx.ensures
+    (c.in_ok-compare_consts.ensures).alike in
     let test = c.loop-i-test.false in
     let end = (c.loop-i.auto).i-end in
     let left : i ≡ count (const_parts_of a) = omega (arith, test, end, inv.left_count) in
@@ -1173,7 +1180,8 @@ structurally_relate_consts-make_const-requires-clause-fits g t c =
     let extends = ((inv.fronted).passes).extends in
     let same_a : (q.meaning).const_ c.args.a.now ≡ a = extends.const_ c.args.a.now k.left_known in
     let same_b : (q.meaning).const_ c.args.b.now ≡ b = extends.const_ c.args.b.now k.right_known in
-    let alike = (c.in_ok-compare_consts_of.ensures).alike in
+    let alike = subst (λ m. AreOfOneConst (m.const_ c.args.a.now) (m.const_ c.args.b.now)) c.cx.ensures
+    (c.in_ok-compare_consts.ensures).alike in
     let test = c.loop-i-test.false in
     let end = (c.loop-i.auto).i-end in
     let left : i ≡ count (const_parts_of a) = omega (arith, test, end, inv.left_count) in
@@ -1197,7 +1205,8 @@ structurally_relate_consts-returns g t c =
     let extends = ((inv.fronted).passes).extends in
     let same_a : (q.meaning).const_ c.args.a.now ≡ a = extends.const_ c.args.a.now k.left_known in
     let same_b : (q.meaning).const_ c.args.b.now ≡ b = extends.const_ c.args.b.now k.right_known in
-    let alike = (c.in_ok-compare_consts_of.ensures).alike in
+    let alike = subst (λ m. AreOfOneConst (m.const_ c.args.a.now) (m.const_ c.args.b.now)) c.cx.ensures
+    (c.in_ok-compare_consts.ensures).alike in
     let test = c.loop-i-test.false in
     let end = (c.loop-i.auto).i-end in
     let left : i ≡ count (const_parts_of a) = omega (arith, test, end, inv.left_count) in
@@ -1216,8 +1225,8 @@ structurally_relate_consts-returns g t c =
     (ap₂ const_over same_a (ap (list_tree (arg_tree q.meaning)) c.as_slice.ensures.value)) (made.made).sure
     (made.made).means
 
-pub structurally_relate_tys-returns-then-is_left-clause-related : goal.structurally_relate_tys-returns-then-is_left-clause-related
-structurally_relate_tys-returns-then-is_left-clause-related g t c =
+pub structurally_relate_tys-returns-in-Left-clause-related : goal.structurally_relate_tys-returns-in-Left-clause-related
+structurally_relate_tys-returns-in-Left-clause-related g t c =
     let r = g.R.HasState.state c.args.r.now in
     let a = (r.meaning).ty c.args.a.now in
     let b = (r.meaning).ty c.args.b.now in
@@ -1227,10 +1236,10 @@ structurally_relate_tys-returns-then-is_left-clause-related g t c =
     let k = c.requires.asked in
     left_error g.R.TypeRelation.manner r r.ambient (r.meaning).ty type_sort a b c.args.a.now refl k.left_in k.right_in
     (sorted.ty c.args.a.now k.left_known) (sorted.ty c.args.b.now k.right_known) refl k.left_known
-    ((c.in_ok-start.ensures.starts).left_error c.if-is_left.true)
+    (subst (Starts (g.R.HasState.state c.args.r.now).meaning c.args.a.now c.args.b.now) c.in-Left.is c.in_ok-start.ensures.starts)
 
-pub structurally_relate_tys-returns-then-is_right-clause-related : goal.structurally_relate_tys-returns-then-is_right-clause-related
-structurally_relate_tys-returns-then-is_right-clause-related g t c =
+pub structurally_relate_tys-returns-in-Right-clause-related : goal.structurally_relate_tys-returns-in-Right-clause-related
+structurally_relate_tys-returns-in-Right-clause-related g t c =
     let r = g.R.HasState.state c.args.r.now in
     let a = (r.meaning).ty c.args.a.now in
     let b = (r.meaning).ty c.args.b.now in
@@ -1240,7 +1249,7 @@ structurally_relate_tys-returns-then-is_right-clause-related g t c =
     let k = c.requires.asked in
     right_error g.R.TypeRelation.manner r r.ambient (r.meaning).ty type_sort a b c.args.b.now refl k.left_in k.right_in
     (sorted.ty c.args.a.now k.left_known) (sorted.ty c.args.b.now k.right_known) refl k.right_known
-    ((c.in_ok-start.ensures.starts).right_error c.if-is_right.true)
+    (subst (Starts (g.R.HasState.state c.args.r.now).meaning c.args.a.now c.args.b.now) c.in-Right.is c.in_ok-start.ensures.starts)
 
 pub structurally_relate_tys-returns-in_err-start-clause-related : goal.structurally_relate_tys-returns-in_err-start-clause-related
 structurally_relate_tys-returns-in_err-start-clause-related g t c =
@@ -1269,12 +1278,12 @@ structurally_relate_tys-loop-i-init g t c =
     let cx = g.R.TypeRelation.interner c.args.r.now in
     let sorted : Sorted r.meaning = subst (λ m. Sorted m) (sym e) (g.met.I.Interner.sorted cx) in
     let k = c.requires.asked in
-    let alike = (c.in_ok-start.ensures.starts).alike c.if-is_left.false c.if-is_right.false in
+    let alike = (subst (Starts (g.R.HasState.state c.args.r.now).meaning c.args.a.now c.args.b.now) c.in-Over.is c.in_ok-start.ensures.starts).alike in
     record {
       lawful = c.requires.lawful;
       fronted = fronted_none g.R.TypeRelation.manner r (head_of a) r.ambient (direct_parts a) (direct_parts b);
-      left_count = ((c.in_ok-start.ensures.starts).counted c.if-is_left.false c.if-is_right.false);
-      right_count = ((c.in_ok-start.ensures.starts).counted c.if-is_left.false c.if-is_right.false) ∙ parts_counted a b alike;
+      left_count = (subst (Starts (g.R.HasState.state c.args.r.now).meaning c.args.a.now c.args.b.now) c.in-Over.is c.in_ok-start.ensures.starts).counted;
+      right_count = (subst (Starts (g.R.HasState.state c.args.r.now).meaning c.args.a.now c.args.b.now) c.in-Over.is c.in_ok-start.ensures.starts).counted ∙ parts_counted a b alike;
       are_parts = record {
         left_list = parts_of_list type_sort a (sorted.ty c.args.a.now k.left_known);
         right_list = parts_of_list type_sort b (sorted.ty c.args.b.now k.right_known);
@@ -1301,7 +1310,7 @@ structurally_relate_tys-relate_with_variance-related-requires g t c κs within =
     let extends = ((inv.fronted).passes).extends in
     let same_a : (q.meaning).ty c.args.a.now ≡ a = extends.ty c.args.a.now k.left_known in
     let same_b : (q.meaning).ty c.args.b.now ≡ b = extends.ty c.args.b.now k.right_known in
-    let alike = (c.in_ok-start.ensures.starts).alike c.if-is_left.false c.if-is_right.false in
+    let alike = (subst (Starts (g.R.HasState.state c.args.r.now).meaning c.args.a.now c.args.b.now) c.in-Over.is c.in_ok-start.ensures.starts).alike in
     let test = c.loop-i-test.true in
     let lx : i < count (direct_parts a) = omega (arith, test, inv.left_count) in
     let ly : i < count (direct_parts b) = omega (arith, test, inv.right_count) in
@@ -1338,7 +1347,7 @@ structurally_relate_tys-returns-in_err-keep_answer-clause-related g t c =
     let extends = ((inv.fronted).passes).extends in
     let same_a : (q.meaning).ty c.args.a.now ≡ a = extends.ty c.args.a.now k.left_known in
     let same_b : (q.meaning).ty c.args.b.now ≡ b = extends.ty c.args.b.now k.right_known in
-    let alike = (c.in_ok-start.ensures.starts).alike c.if-is_left.false c.if-is_right.false in
+    let alike = (subst (Starts (g.R.HasState.state c.args.r.now).meaning c.args.a.now c.args.b.now) c.in-Over.is c.in_ok-start.ensures.starts).alike in
     let test = c.loop-i-test.true in
     let lx : i < count (direct_parts a) = omega (arith, test, inv.left_count) in
     let ly : i < count (direct_parts b) = omega (arith, test, inv.right_count) in
@@ -1400,7 +1409,7 @@ structurally_relate_tys-loop-i-preserved g t c =
     let extends = ((inv.fronted).passes).extends in
     let same_a : (q.meaning).ty c.args.a.now ≡ a = extends.ty c.args.a.now k.left_known in
     let same_b : (q.meaning).ty c.args.b.now ≡ b = extends.ty c.args.b.now k.right_known in
-    let alike = (c.in_ok-start.ensures.starts).alike c.if-is_left.false c.if-is_right.false in
+    let alike = (subst (Starts (g.R.HasState.state c.args.r.now).meaning c.args.a.now c.args.b.now) c.in-Over.is c.in_ok-start.ensures.starts).alike in
     let test = c.loop-i-test.true in
     let lx : i < count (direct_parts a) = omega (arith, test, inv.left_count) in
     let ly : i < count (direct_parts b) = omega (arith, test, inv.right_count) in
@@ -1469,7 +1478,7 @@ structurally_relate_tys-keep_answer-requires g t c =
     let within : c.loop-i.i ≤ count (direct_parts a) = omega (arith, test, inv.left_count) in
     record {
       sure = subst (λ z. IsTrue (known z)) (sym then) k.left_known;
-      over_args = λ o. absurd (false≢true (sym c.if-in_order.false ∙ ((c.in_ok-start.ensures.starts).by_parts c.if-is_left.false c.if-is_right.false).1 (subst IsByParts then o)));
+      over_args = λ o. (subst (Starts (g.R.HasState.state c.args.r.now).meaning c.args.a.now c.args.b.now) c.in-Over.is c.in_ok-start.ensures.starts).over_args (subst IsByParts then o);
       within = subst (λ z. c.loop-i.i ≤ count (direct_parts z)) (sym then) within;
     }
 
@@ -1486,7 +1495,7 @@ structurally_relate_tys-note_args-requires-clause-one_form g t c =
     let extends = ((inv.fronted).passes).extends in
     let same_a : (q.meaning).ty c.args.a.now ≡ a = extends.ty c.args.a.now k.left_known in
     let same_b : (q.meaning).ty c.args.b.now ≡ b = extends.ty c.args.b.now k.right_known in
-    let alike = (c.in_ok-start.ensures.starts).alike c.if-is_left.false c.if-is_right.false in
+    let alike = (subst (Starts (g.R.HasState.state c.args.r.now).meaning c.args.a.now c.args.b.now) c.in-Over.is c.in_ok-start.ensures.starts).alike in
     subst₂ AreOfOneForm (sym same_a) (sym same_b) alike
 
 pub structurally_relate_tys-note_args-requires-clause-related : goal.structurally_relate_tys-note_args-requires-clause-related
@@ -1502,7 +1511,7 @@ structurally_relate_tys-note_args-requires-clause-related g t c =
     let extends = ((inv.fronted).passes).extends in
     let same_a : (q.meaning).ty c.args.a.now ≡ a = extends.ty c.args.a.now k.left_known in
     let same_b : (q.meaning).ty c.args.b.now ≡ b = extends.ty c.args.b.now k.right_known in
-    let alike = (c.in_ok-start.ensures.starts).alike c.if-is_left.false c.if-is_right.false in
+    let alike = (subst (Starts (g.R.HasState.state c.args.r.now).meaning c.args.a.now c.args.b.now) c.in-Over.is c.in_ok-start.ensures.starts).alike in
     let test = c.loop-i-test.false in
     let end = (c.loop-i.auto).i-end in
     let left : i ≡ count (direct_parts a) = omega (arith, test, end, inv.left_count) in
@@ -1527,7 +1536,7 @@ structurally_relate_tys-note_args-requires-clause-asked g t c =
     let extends = ((inv.fronted).passes).extends in
     let same_a : (q.meaning).ty c.args.a.now ≡ a = extends.ty c.args.a.now k.left_known in
     let same_b : (q.meaning).ty c.args.b.now ≡ b = extends.ty c.args.b.now k.right_known in
-    let alike = (c.in_ok-start.ensures.starts).alike c.if-is_left.false c.if-is_right.false in
+    let alike = (subst (Starts (g.R.HasState.state c.args.r.now).meaning c.args.a.now c.args.b.now) c.in-Over.is c.in_ok-start.ensures.starts).alike in
     subst₂ (λ t u. Asked M q q.ambient t u) (sym same_a) (sym same_b)
     (subst (λ v. Asked M q v a b) (sym ((inv.fronted).passes).ambient) (asked_later M r.ambient a b (inv.fronted).passes k))
 
@@ -1544,7 +1553,7 @@ structurally_relate_tys-returns-in_err-note_args-clause-related g t c =
     let extends = ((inv.fronted).passes).extends in
     let same_a : (q.meaning).ty c.args.a.now ≡ a = extends.ty c.args.a.now k.left_known in
     let same_b : (q.meaning).ty c.args.b.now ≡ b = extends.ty c.args.b.now k.right_known in
-    let alike = (c.in_ok-start.ensures.starts).alike c.if-is_left.false c.if-is_right.false in
+    let alike = (subst (Starts (g.R.HasState.state c.args.r.now).meaning c.args.a.now c.args.b.now) c.in-Over.is c.in_ok-start.ensures.starts).alike in
     let test = c.loop-i-test.false in
     let end = (c.loop-i.auto).i-end in
     let left : i ≡ count (direct_parts a) = omega (arith, test, end, inv.left_count) in
@@ -1574,7 +1583,7 @@ structurally_relate_tys-returns-then-is_empty-clause-related g t c =
     let extends = ((inv.fronted).passes).extends in
     let same_a : (q.meaning).ty c.args.a.now ≡ a = extends.ty c.args.a.now k.left_known in
     let same_b : (q.meaning).ty c.args.b.now ≡ b = extends.ty c.args.b.now k.right_known in
-    let alike = (c.in_ok-start.ensures.starts).alike c.if-is_left.false c.if-is_right.false in
+    let alike = (subst (Starts (g.R.HasState.state c.args.r.now).meaning c.args.a.now c.args.b.now) c.in-Over.is c.in_ok-start.ensures.starts).alike in
     let test = c.loop-i-test.false in
     let end = (c.loop-i.auto).i-end in
     let left : i ≡ count (direct_parts a) = omega (arith, test, end, inv.left_count) in
@@ -1605,7 +1614,7 @@ structurally_relate_tys-make_ty-requires-clause-ty_known g t c =
     let extends = ((inv.fronted).passes).extends in
     let same_a : (q.meaning).ty c.args.a.now ≡ a = extends.ty c.args.a.now k.left_known in
     let same_b : (q.meaning).ty c.args.b.now ≡ b = extends.ty c.args.b.now k.right_known in
-    let alike = (c.in_ok-start.ensures.starts).alike c.if-is_left.false c.if-is_right.false in
+    let alike = (subst (Starts (g.R.HasState.state c.args.r.now).meaning c.args.a.now c.args.b.now) c.in-Over.is c.in_ok-start.ensures.starts).alike in
     let test = c.loop-i-test.false in
     let end = (c.loop-i.auto).i-end in
     let left : i ≡ count (direct_parts a) = omega (arith, test, end, inv.left_count) in
@@ -1643,7 +1652,7 @@ structurally_relate_tys-make_ty-requires-clause-parts_known g t c =
     let extends = ((inv.fronted).passes).extends in
     let same_a : (q.meaning).ty c.args.a.now ≡ a = extends.ty c.args.a.now k.left_known in
     let same_b : (q.meaning).ty c.args.b.now ≡ b = extends.ty c.args.b.now k.right_known in
-    let alike = (c.in_ok-start.ensures.starts).alike c.if-is_left.false c.if-is_right.false in
+    let alike = (subst (Starts (g.R.HasState.state c.args.r.now).meaning c.args.a.now c.args.b.now) c.in-Over.is c.in_ok-start.ensures.starts).alike in
     let test = c.loop-i-test.false in
     let end = (c.loop-i.auto).i-end in
     let left : i ≡ count (direct_parts a) = omega (arith, test, end, inv.left_count) in
@@ -1682,7 +1691,7 @@ structurally_relate_tys-make_ty-requires-clause-fits g t c =
     let extends = ((inv.fronted).passes).extends in
     let same_a : (q.meaning).ty c.args.a.now ≡ a = extends.ty c.args.a.now k.left_known in
     let same_b : (q.meaning).ty c.args.b.now ≡ b = extends.ty c.args.b.now k.right_known in
-    let alike = (c.in_ok-start.ensures.starts).alike c.if-is_left.false c.if-is_right.false in
+    let alike = (subst (Starts (g.R.HasState.state c.args.r.now).meaning c.args.a.now c.args.b.now) c.in-Over.is c.in_ok-start.ensures.starts).alike in
     let test = c.loop-i-test.false in
     let end = (c.loop-i.auto).i-end in
     let left : i ≡ count (direct_parts a) = omega (arith, test, end, inv.left_count) in
@@ -1721,7 +1730,7 @@ structurally_relate_tys-returns-clause-related g t c =
     let extends = ((inv.fronted).passes).extends in
     let same_a : (q.meaning).ty c.args.a.now ≡ a = extends.ty c.args.a.now k.left_known in
     let same_b : (q.meaning).ty c.args.b.now ≡ b = extends.ty c.args.b.now k.right_known in
-    let alike = (c.in_ok-start.ensures.starts).alike c.if-is_left.false c.if-is_right.false in
+    let alike = (subst (Starts (g.R.HasState.state c.args.r.now).meaning c.args.a.now c.args.b.now) c.in-Over.is c.in_ok-start.ensures.starts).alike in
     let test = c.loop-i-test.false in
     let end = (c.loop-i.auto).i-end in
     let left : i ≡ count (direct_parts a) = omega (arith, test, end, inv.left_count) in
@@ -1753,13 +1762,13 @@ structurally_relate_tys-returns-clause-related g t c =
     (ap₂ form_over stays (ap (list_tree (arg_tree u.meaning)) c.as_slice.ensures.value ∙ listed)) (made.made).sure
     (made.made).means
 
-pub structurally_relate_tys-returns-then-is_left-clause-asks : goal.structurally_relate_tys-returns-then-is_left-clause-asks
-structurally_relate_tys-returns-then-is_left-clause-asks g t c = λ promised directed d ts us over opens.
-    absurd (error_not_over over (inl ((c.in_ok-start.ensures.starts).left_error c.if-is_left.true)))
+pub structurally_relate_tys-returns-in-Left-clause-asks : goal.structurally_relate_tys-returns-in-Left-clause-asks
+structurally_relate_tys-returns-in-Left-clause-asks g t c = λ promised directed d ts us over opens.
+    absurd (error_not_over over (inl (subst (Starts (g.R.HasState.state c.args.r.now).meaning c.args.a.now c.args.b.now) c.in-Left.is c.in_ok-start.ensures.starts)))
 
-pub structurally_relate_tys-returns-then-is_right-clause-asks : goal.structurally_relate_tys-returns-then-is_right-clause-asks
-structurally_relate_tys-returns-then-is_right-clause-asks g t c = λ promised directed d ts us over opens.
-    absurd (error_not_over over (inr ((c.in_ok-start.ensures.starts).right_error c.if-is_right.true)))
+pub structurally_relate_tys-returns-in-Right-clause-asks : goal.structurally_relate_tys-returns-in-Right-clause-asks
+structurally_relate_tys-returns-in-Right-clause-asks g t c = λ promised directed d ts us over opens.
+    absurd (error_not_over over (inr (subst (Starts (g.R.HasState.state c.args.r.now).meaning c.args.a.now c.args.b.now) c.in-Right.is c.in_ok-start.ensures.starts)))
 
 pub structurally_relate_tys-returns-in_err-start-clause-asks : goal.structurally_relate_tys-returns-in_err-start-clause-asks
 structurally_relate_tys-returns-in_err-start-clause-asks g t c =
@@ -1810,9 +1819,9 @@ structurally_relate_tys-returns-clause-asks g t c =
     k.right_known (made.grown).store [] ((made.grown).goals ∙ sym (append-nil u.goals)) promised
     c.in_ok-note_args.ensures.asks)
 
-pub structurally_relate_tys-returns-then-in_order-clause-asks : goal.structurally_relate_tys-returns-then-in_order-clause-asks
-structurally_relate_tys-returns-then-in_order-clause-asks g t c = λ promised directed d ts us over opens.
-    absurd (by_parts_not_over over (((c.in_ok-start.ensures.starts).by_parts c.if-is_left.false c.if-is_right.false).0 c.if-in_order.true))
+pub structurally_relate_tys-returns-in-InOrder-clause-asks : goal.structurally_relate_tys-returns-in-InOrder-clause-asks
+structurally_relate_tys-returns-in-InOrder-clause-asks g t c = λ promised directed d ts us over opens.
+    absurd (by_parts_not_over over (subst (Starts (g.R.HasState.state c.args.r.now).meaning c.args.a.now c.args.b.now) c.in-InOrder.is c.in_ok-start.ensures.starts).by_parts)
 
 pub relate_in_order-loop-i-init : goal.relate_in_order-loop-i-init
 relate_in_order-loop-i-init g t c =
@@ -2743,23 +2752,23 @@ relate_parts-returns-in-Binder g t c =
       alike = λ o. absurd (binder_not_compared c.args.a.now binder o);
     }
 
-pub relate_parts-compare_parts_of-requires-clause-kind : goal.relate_parts-compare_parts_of-requires-clause-kind
-relate_parts-compare_parts_of-requires-clause-kind g t c =
+pub relate_parts-compare_parts-requires-clause-kind : goal.relate_parts-compare_parts-requires-clause-kind
+relate_parts-compare_parts-requires-clause-kind g t c =
     let no_arg : IsArgPart c.args.a.now → ⊥ = λ o. let e = (c.in-Form.ensures.argument).1 o in absurd (cc) in
     let no_binder : IsBinderPart c.args.a.now → ⊥ = λ o. let e = (c.in-Form.ensures.binder).1 o in absurd (cc) in
     let kind : IsComparedPart c.args.a.now = form_compared c.args.a.now c.requires.kind no_arg no_binder in
     kind
 
-pub relate_parts-compare_parts_of-requires-clause-one_sort : goal.relate_parts-compare_parts_of-requires-clause-one_sort
-relate_parts-compare_parts_of-requires-clause-one_sort g t c =
+pub relate_parts-compare_parts-requires-clause-one_sort : goal.relate_parts-compare_parts-requires-clause-one_sort
+relate_parts-compare_parts-requires-clause-one_sort g t c =
     let no_arg : IsArgPart c.args.a.now → ⊥ = λ o. let e = (c.in-Form.ensures.argument).1 o in absurd (cc) in
     let no_binder : IsBinderPart c.args.a.now → ⊥ = λ o. let e = (c.in-Form.ensures.binder).1 o in absurd (cc) in
     let kind : IsComparedPart c.args.a.now = form_compared c.args.a.now c.requires.kind no_arg no_binder in
     let one_sort = paired_compared c.args.a.now c.args.b.now kind c.requires.paired in
     one_sort
 
-pub relate_parts-returns-in_err-compare_parts_of-in-Form : goal.relate_parts-returns-in_err-compare_parts_of-in-Form
-relate_parts-returns-in_err-compare_parts_of-in-Form g t c =
+pub relate_parts-returns-in_err-compare_parts-in-Form : goal.relate_parts-returns-in_err-compare_parts-in-Form
+relate_parts-returns-in_err-compare_parts-in-Form g t c =
     let r = g.R.HasState.state c.args.r.now in
     let M = g.R.TypeRelation.manner in
     let a = part_tree r.meaning c.args.a.now in
@@ -2775,15 +2784,15 @@ relate_parts-returns-in_err-compare_parts_of-in-Form g t c =
     let form = compared_is r.meaning sorted c.args.a.now kind k.left_known in
     let other_kind : IsComparedPart c.args.b.now = compared_as c.args.a.now c.args.b.now kind one_sort in
     let other = compared_is r.meaning sorted c.args.b.now other_kind k.right_known in
-    let n = c.in_err-compare_parts_of-in-Form in
-    let failed = as_err c.from_residual-in_err-compare_parts_of-in-Form.result (Unrelated n.field-0.0)
-    c.from_residual-in_err-compare_parts_of-in-Form.ensures.0 c.from_residual-in_err-compare_parts_of-in-Form.ensures.1 in
+    let n = c.in_err-compare_parts-in-Form in
+    let failed = as_err c.from_residual-in_err-compare_parts-in-Form.result (Unrelated n.field-0.0)
+    c.from_residual-in_err-compare_parts-in-Form.ensures.0 c.from_residual-in_err-compare_parts-in-Form.ensures.1 in
     record {
       related = subst (λ z. Related M r r r.ambient a b (part_tree r.meaning) z) (sym failed)
           (terms_differ M r r.ambient (part_tree r.meaning) (part_sort c.args.a.now) (part_sort c.args.b.now) a b
           n.field-0.0 c.requires.decides form other (part_sorted r.meaning sorted c.args.a.now k.left_known form)
           (part_sorted r.meaning sorted c.args.b.now k.right_known other) k.left_known k.right_known
-          (n.ensures).errors);
+          (subst (λ m. PartsDiffer m c.args.a.now c.args.b.now n.field-0.0) c.cx.ensures (n.ensures).errors));
       sort = subst (λ u. IfOk u (λ z. part_sort z ≡ part_sort c.args.a.now)) (sym failed) tt;
       predicate = subst (λ u. IfOk u (λ z. form_of_part z ≡ form_of_part c.args.a.now)) (sym failed) tt;
       alike = λ o. subst (λ u. OnOk u (AreOfOneForm a b)) (sym failed) tt;
@@ -2807,7 +2816,8 @@ relate_parts-relate_in_order-requires g t c κs within =
     let lawful = c.requires.lawful in
     let decides = c.requires.decides in
     let asked = c.requires.asked in
-    let alike = (c.in_ok-compare_parts_of-in-Form.ensures).alike in
+    let alike = subst (λ m. AreOfOneForm (part_tree m c.args.a.now) (part_tree m c.args.b.now)) c.cx.ensures
+    (c.in_ok-compare_parts-in-Form.ensures).alike in
     let under : 8 * depth (r.store).budget (weight r.store a + weight r.store b) <
     8 * depth (r.store).budget (weight r.store a + weight r.store b) + 6 = omega arith in
     let d = c.decreases in (
@@ -2833,8 +2843,8 @@ relate_parts-relate_in_order-requires g t c κs within =
       ),
     )
 
-pub relate_parts-returns-in_ok-compare_parts_of-in-Form : goal.relate_parts-returns-in_ok-compare_parts_of-in-Form
-relate_parts-returns-in_ok-compare_parts_of-in-Form g t c =
+pub relate_parts-returns-in_ok-compare_parts-in-Form : goal.relate_parts-returns-in_ok-compare_parts-in-Form
+relate_parts-returns-in_ok-compare_parts-in-Form g t c =
     let r = g.R.HasState.state c.args.r.now in
     let M = g.R.TypeRelation.manner in
     let a = part_tree r.meaning c.args.a.now in
@@ -2849,11 +2859,13 @@ relate_parts-returns-in_ok-compare_parts_of-in-Form g t c =
     let form = compared_is r.meaning sorted c.args.a.now kind (c.requires.asked).left_known in
     record {
       related = forms_met M r.ambient a b (part_tree q.meaning) res
-          (form_not_left r.kept.settings a b form (c.in_ok-compare_parts_of-in-Form.ensures).alike)
+          (form_not_left r.kept.settings a b form (subst (λ m. AreOfOneForm (part_tree m c.args.a.now) (part_tree m c.args.b.now)) c.cx.ensures
+          (c.in_ok-compare_parts-in-Form.ensures).alike))
           (c.relate_in_order.ensures).related;
       sort = (c.relate_in_order.ensures).sort;
       predicate = (c.relate_in_order.ensures).predicate;
-      alike = λ o. on_ok res (AreOfOneForm a b) (c.in_ok-compare_parts_of-in-Form.ensures).alike;
+      alike = λ o. on_ok res (AreOfOneForm a b) (subst (λ m. AreOfOneForm (part_tree m c.args.a.now) (part_tree m c.args.b.now)) c.cx.ensures
+          (c.in_ok-compare_parts-in-Form.ensures).alike);
     }
 
 pub structurally_relate_tys-relate_in_order-requires : goal.structurally_relate_tys-relate_in_order-requires
@@ -2865,8 +2877,8 @@ structurally_relate_tys-relate_in_order-requires g t c κs within =
     let lawful = c.requires.lawful in
     let decides = c.requires.decides in
     let asked = c.requires.asked in
-    let form : IsByParts a = ((c.in_ok-start.ensures.starts).by_parts c.if-is_left.false c.if-is_right.false).0 c.if-in_order.true in
-    let alike = (c.in_ok-start.ensures.starts).alike c.if-is_left.false c.if-is_right.false in
+    let form : IsByParts a = (subst (Starts (g.R.HasState.state c.args.r.now).meaning c.args.a.now c.args.b.now) c.in-InOrder.is c.in_ok-start.ensures.starts).by_parts in
+    let alike = (subst (Starts (g.R.HasState.state c.args.r.now).meaning c.args.a.now c.args.b.now) c.in-InOrder.is c.in_ok-start.ensures.starts).alike in
     let under : 8 * depth (r.store).budget (weight r.store a + weight r.store b) <
     8 * depth (r.store).budget (weight r.store a + weight r.store b) + 1 = omega arith in
     let d = c.decreases in (
@@ -2909,8 +2921,8 @@ structurally_relate_tys-returns-in_err-relate_in_order-clause-related g t c =
     subst (λ z. RelatedForms M r q r.ambient a b (q.meaning).ty z) (sym failed)
     (refused_again M r.ambient a b (part_tree q.meaning) (q.meaning).ty n.field-0.0 (n.ensures).related)
 
-pub structurally_relate_tys-returns-then-in_order-clause-related : goal.structurally_relate_tys-returns-then-in_order-clause-related
-structurally_relate_tys-returns-then-in_order-clause-related g t c =
+pub structurally_relate_tys-returns-in-InOrder-clause-related : goal.structurally_relate_tys-returns-in-InOrder-clause-related
+structurally_relate_tys-returns-in-InOrder-clause-related g t c =
     let r = g.R.HasState.state c.args.r.now in
     let M = g.R.TypeRelation.manner in
     let a = (r.meaning).ty c.args.a.now in
@@ -2924,7 +2936,7 @@ pub structurally_relate_tys-part_of-x-requires-clause-over_args : goal.structura
 structurally_relate_tys-part_of-x-requires-clause-over_args g t c =
     let k = c.requires.asked in
     let same = (((c.loop-i.invariant.fronted).passes).extends).ty c.args.a.now k.left_known in
-    λ o. absurd (false≢true (sym c.if-in_order.false ∙ ((c.in_ok-start.ensures.starts).by_parts c.if-is_left.false c.if-is_right.false).1 (subst IsByParts same o)))
+    λ o. (subst (Starts (g.R.HasState.state c.args.r.now).meaning c.args.a.now c.args.b.now) c.in-Over.is c.in_ok-start.ensures.starts).over_args (subst IsByParts same o)
 
 pub structurally_relate_tys-part_of-y-requires-clause-over_args : goal.structurally_relate_tys-part_of-y-requires-clause-over_args
 structurally_relate_tys-part_of-y-requires-clause-over_args g t c =
@@ -2934,12 +2946,11 @@ structurally_relate_tys-part_of-y-requires-clause-over_args g t c =
     let b = (r.meaning).ty c.args.b.now in
     let k = c.requires.asked in
     let same = (((c.loop-i.invariant.fronted).passes).extends).ty c.args.b.now k.right_known in
-    let back = alike_back a b ((c.in_ok-start.ensures.starts).alike c.if-is_left.false c.if-is_right.false) in
-    λ o. absurd (false≢true (sym c.if-in_order.false ∙ ((c.in_ok-start.ensures.starts).by_parts c.if-is_left.false c.if-is_right.false).1
-    (term_alike b a back (subst IsByParts same o))))
+    let back = alike_back a b ((subst (Starts (g.R.HasState.state c.args.r.now).meaning c.args.a.now c.args.b.now) c.in-Over.is c.in_ok-start.ensures.starts).alike) in
+    λ o. (subst (Starts (g.R.HasState.state c.args.r.now).meaning c.args.a.now c.args.b.now) c.in-Over.is c.in_ok-start.ensures.starts).over_args (term_alike b a back (subst IsByParts same o))
 
-pub binders-returns-then-is_same_of : goal.binders-returns-then-is_same_of
-binders-returns-then-is_same_of g t c =
+pub binders-returns-then-is_same : goal.binders-returns-then-is_same
+binders-returns-then-is_same g t c =
     let r = g.R.HasState.state c.args.r.now in
     let M = g.R.TypeRelation.manner in
     let a = part_tree r.meaning c.args.a.now in
@@ -2947,7 +2958,8 @@ binders-returns-then-is_same_of g t c =
     let k = c.requires.asked in
     record {
       related = itself_related M r r.ambient (part_tree r.meaning) a b c.args.a.now
-          (c.is_same_of.ensures c.if-is_same_of.true) refl k.left_known;
+          (subst (λ m. part_tree m c.args.a.now ≡ part_tree m c.args.b.now) c.cx.ensures
+          (c.is_same.ensures.one c.if-is_same.true)) refl k.left_known;
       sort = refl;
     }
 

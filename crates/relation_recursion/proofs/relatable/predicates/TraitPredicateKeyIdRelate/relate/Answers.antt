@@ -11,8 +11,8 @@ use Rattle.relation_semantics.proofs.Passing.{as_err}
 use Rattle.relation_recursion.proofs.Items.{are_parts, part_asked, clause_refused, clause_unlike, clause_related}
 use Rattle.relation_recursion.proofs.relatable.predicates.TraitPredicateKeyIdRelate.relate.Goals as goal
 
-pub trait_refs-requires-clause-asked : goal.trait_refs-requires-clause-asked
-trait_refs-requires-clause-asked g c =
+pub relate-requires-clause-asked : goal.relate-requires-clause-asked
+relate-requires-clause-asked g c =
     let r = g.R.HasState.state c.args.r.now in
     let m = r.meaning in
     let a = c.args.a.now in
@@ -26,7 +26,7 @@ trait_refs-requires-clause-asked g c =
 pub returns-in_err-trait_ref-clause-related : goal.returns-in_err-trait_ref-clause-related
 returns-in_err-trait_ref-clause-related g c =
     let r = g.R.HasState.state c.args.r.now in
-    let q = g.R.HasState.state c.trait_refs.new.r in
+    let q = g.R.HasState.state c.relate.new.r in
     let M = g.R.TypeRelation.manner in
     let m = r.meaning in
     let a = c.args.a.now in
@@ -38,12 +38,12 @@ returns-in_err-trait_ref-clause-related g c =
     subst (Related M r q r.ambient (clause_kind_tree m (Trait a)) (clause_kind_tree m (Trait b))
     (λ z. clause_kind_tree q.meaning (Trait z))) (sym failed)
     (clause_refused M r.ambient a.polarity b.polarity t u r (are_parts M r.ambient a.polarity b.polarity t u r
-    c.requires.asked) (trait_ref_tree q.meaning) (λ z. clause_kind_tree q.meaning (Trait z)) n.field-0.0 n.ensures)
+    c.requires.asked) (trait_ref_tree q.meaning) (λ z. clause_kind_tree q.meaning (Trait z)) n.field-0.0 (n.ensures).related)
 
 pub returns-then-ne-clause-related : goal.returns-then-ne-clause-related
 returns-then-ne-clause-related g c =
     let r = g.R.HasState.state c.args.r.now in
-    let q = g.R.HasState.state c.trait_refs.new.r in
+    let q = g.R.HasState.state c.relate.new.r in
     let M = g.R.TypeRelation.manner in
     let m = r.meaning in
     let a = c.args.a.now in
@@ -57,13 +57,13 @@ returns-then-ne-clause-related g c =
     (λ z. clause_kind_tree q.meaning (Trait z)) (Err (Unrelated (PolarityMismatch z))))
     (sym (ap₂ (λ x y. record { expected = x; found = y }) c.new-pair.ensures.expected_kept c.new-pair.ensures.found_kept))
     (clause_unlike M r.ambient a.polarity b.polarity t u r (are_parts M r.ambient a.polarity b.polarity t u r
-    c.requires.asked) (trait_ref_tree q.meaning) (λ z. clause_kind_tree q.meaning (Trait z)) n.trait_ref n.ensures
+    c.requires.asked) (trait_ref_tree q.meaning) (λ z. clause_kind_tree q.meaning (Trait z)) n.trait_ref (n.ensures).related
     c.requires.decides differ)
 
 pub returns-clause-related : goal.returns-clause-related
 returns-clause-related g c =
     let r = g.R.HasState.state c.args.r.now in
-    let q = g.R.HasState.state c.trait_refs.new.r in
+    let q = g.R.HasState.state c.relate.new.r in
     let M = g.R.TypeRelation.manner in
     let m = r.meaning in
     let a = c.args.a.now in
@@ -72,7 +72,7 @@ returns-clause-related g c =
     let u = trait_ref_tree m b.trait_ref in
     let n = c.in_ok-trait_ref in
     clause_related M r.ambient a.polarity b.polarity t u r (are_parts M r.ambient a.polarity b.polarity t u r
-    c.requires.asked) (trait_ref_tree q.meaning) (λ z. clause_kind_tree q.meaning (Trait z)) n.trait_ref n.ensures
+    c.requires.asked) (trait_ref_tree q.meaning) (λ z. clause_kind_tree q.meaning (Trait z)) n.trait_ref (n.ensures).related
     (record { trait_ref = n.trait_ref; polarity = a.polarity })
     (let z = c.if-ne.false in let h = c.ne.ensures in let k = c.if-ne.ensures in search rules) refl
     c.requires.asked.left_known

@@ -9,11 +9,11 @@ use Rattle.relation_semantics.proofs.Passing.{as_err}
 use Rattle.relation_semantics.proofs.Retelling.{refused_again, retold}
 use Rattle.relation_recursion.specs.Comparing.{TraitRefsDiffer, AreOfOneTraitRef}
 use Rattle.relation_recursion.proofs.Items.{items_differ, asked_over}
-use Rattle.relation_recursion.proofs.relatable.predicates.trait_refs.Goals as goal
+use Rattle.relation_recursion.proofs.relatable.predicates.TraitRefKeyIdRelate.relate.Goals as goal
 use Rattle.relation_terms.proofs.Members.{terms_list}
 
-pub returns-in_err-compare_trait_refs : goal.returns-in_err-compare_trait_refs
-returns-in_err-compare_trait_refs g c =
+pub returns-in_err-compare_trait_refs-clause-related : goal.returns-in_err-compare_trait_refs-clause-related
+returns-in_err-compare_trait_refs-clause-related g c =
     let r = g.R.HasState.state c.args.r.now in
     let M = g.R.TypeRelation.manner in
     let m = r.meaning in
@@ -44,8 +44,8 @@ relate_args-requires-clause-asked g c =
 pub relate_args-requires-clause-as_many : goal.relate_args-requires-clause-as_many
 relate_args-requires-clause-as_many g c = (subst (λ m. AreOfOneTraitRef m c.args.a.now c.args.b.now) c.cx.ensures (c.in_ok-compare_trait_refs.ensures).alike).1
 
-pub returns-in_err-args : goal.returns-in_err-args
-returns-in_err-args g c =
+pub returns-in_err-args-clause-related : goal.returns-in_err-args-clause-related
+returns-in_err-args-clause-related g c =
     let r = g.R.HasState.state c.args.r.now in
     let q = g.R.HasState.state c.relate_args.new.r in
     let M = g.R.TypeRelation.manner in
@@ -60,8 +60,8 @@ returns-in_err-args g c =
     (refused_again M r.ambient a b (λ k. node (trait_ref ((q.meaning).id (c.args.a.now.def_id).0)) ((q.meaning).args k))
     (trait_ref_tree q.meaning) n.field-0.0 (n.ensures h (subst (λ m. AreOfOneTraitRef m c.args.a.now c.args.b.now) c.cx.ensures (c.in_ok-compare_trait_refs.ensures).alike).0))
 
-pub returns : goal.returns
-returns g c =
+pub returns-clause-related : goal.returns-clause-related
+returns-clause-related g c =
     let r = g.R.HasState.state c.args.r.now in
     let q = g.R.HasState.state c.relate_args.new.r in
     let M = g.R.TypeRelation.manner in
