@@ -27,7 +27,10 @@ pub(crate) fn is_error_const_of<I: Interner, R: TypeRelation<I>>(r: &R, constant
     requires { IsTrue (known ((R.state r.now).meaning.const_ constant.now)) }
     ensures { IsTrue result ↔ IsError ((R.state r.now).meaning.const_ constant.now) }
 {
-    matches!(r.cx().const_kind(constant), ConstKind::Error(_))
+    match r.cx().const_kind(constant) {
+        ConstKind::Error(_) => true,
+        _ => false,
+    }
 }
 
 pub(crate) fn compare_consts_of<I: Interner, R: TypeRelation<I>>(

@@ -66,5 +66,8 @@ pub fn compare_alias_terms<I: Interner>(
 fn is_opaque<D>(kind: &AliasTermKind<D>) -> bool
     ensures { result ≡ is_opaque_kind (alias_term_kind kind.now) }
 {
-    matches!(kind, AliasTermKind::OpaqueTy { .. })
+    match kind {
+        AliasTermKind::OpaqueTy { .. } => true,
+        _ => false,
+    }
 }
