@@ -6,13 +6,14 @@ ghost use Rattle.text_asking.specs.Asking.{AllReady, KnowsAnswer, KnowsRelated};
 ghost use Rattle.text_asking.specs.Proofs.{AllMade, KnowsPair};
 
 use crate::environment::environment_of;
-use crate::proving::{perhaps_of, rule_said, rules_of};
+use crate::proving::{perhaps_of, rule_said, rules_of, rules_unasked, said_count};
 use crate::question::{Answer, Outcome, Ready, Unasked};
 use relation_reference::context::RefCtxt;
 use relation_terms::terms::{Binder, ClausesKey, Interner, Keys, ParamEnvKey};
 use std::fmt::{self, Write};
-use text_proving::impls::{Impls, ImplsResult, WhyApart, WhyNot, ask_impls, impls_text};
+use text_proving::impls::{Impls, ImplsResult, WhyApart, ask_impls, impls_text};
 use text_proving::open::ask_open_impls;
+use text_proving::proving::WhyNot;
 use text_reading::naming::{Impl, Parts};
 
 // Two impls, the rules by which it is told whether they overlap, and the environment.
@@ -100,7 +101,9 @@ fn bound_named<I: Interner>(
 // Asks what a question asks about two impls.
 fn told_of<I: Interner>(
     ctx: &mut RefCtxt<I>,
+    terms: &Ready<I>,
     pair: &PairOf<I>,
+    impls: usize,
     depth: usize,
 ) -> Result<ImplsResult<I>, WhyNot>
     requires lawful { IsLawful (I.meaning ctx.old.interner) ctx.old.inner }
@@ -108,17 +111,27 @@ fn told_of<I: Interner>(
     ensures lawful { IsLawful (I.meaning ctx.new.interner) ctx.new.inner }
     ensures grown { Extends (I.meaning ctx.old.interner) (I.meaning ctx.new.interner) }
 {
+    let said = said_count(terms.impls.get(..impls).unwrap_or(&[]));
+    if let Some(why) = rules_unasked(&*ctx, terms, &pair.rules, said) {
+        return Err(why);
+    }
+    if let Some(why) = rules_unasked(&*ctx, terms, &pair.perhaps, impls) {
+        return Err(why);
+    }
+    if let Some(why) = rules_unasked(&*ctx, terms, &[pair.left, pair.right], 2) {
+        return Err(why);
+    }
     if pair.perhaps.is_empty() {
-        return ask_impls(
+        return Ok(ask_impls(
             ctx,
             &pair.rules,
             pair.param_env,
             pair.left,
             pair.right,
             depth,
-        );
+        ));
     }
-    ask_open_impls(
+    Ok(ask_open_impls(
         ctx,
         &pair.rules,
         &pair.perhaps,
@@ -126,7 +139,7 @@ fn told_of<I: Interner>(
         pair.left,
         pair.right,
         depth,
-    )
+    ))
 }
 
 // Asks in a context whether two impls overlap, by the places of their first rules, within a depth, by the first rules of
@@ -151,7 +164,7 @@ pub(super) fn ask_whole_impls<I: Interner>(
     let Some(pair) = pair_of(&mut ctx.interner, terms, assumed, left, right, impls) else {
         return Err(Unasked::Memory);
     };
-    match told_of(ctx, &pair, depth) {
+    match told_of(ctx, terms, &pair, impls, depth) {
         Ok(told) => {
             let bound = bound_named(terms, left, right, &told);
             Ok(Answer::Impls(told, bound))

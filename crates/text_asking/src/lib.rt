@@ -43,6 +43,7 @@ use std::fmt::{self, Write};
 use text_depths::{Counts, Depths, Growths};
 use text_elaboration::items::state;
 use text_elaboration::pulls::LIMIT;
+use text_proving::proving::rules_refusal;
 use text_reading::naming::Program;
 use text_terms::building::build;
 use text_terms::printing::TextsOf;
@@ -150,12 +151,15 @@ fn ask_built<I: SizedKeys + Drop, W: Write>(
     requires ready { AllReady (I.meaning ctx.interner) terms }
     requires fit { AllFit (I.meaning ctx.interner) terms }
 {
-    let mut ctx = ctx;
+    let mut ctx = ctx.reset(TypingMode::PostAnalysis, true, BUDGET);
     let Some(rules) = rules_made(&mut ctx.interner, &terms) else {
         return refuse_all(program, between, out);
     };
+    // A context that has no variable, in the first universe: what serves there serves in each one.
+    let serve = rules_refusal(&ctx, &rules).is_none();
     let terms = Ready {
         rules: &rules,
+        serve,
         ..terms
     };
     ask_ready(ctx, texts, program, &terms, between, out)
@@ -200,6 +204,7 @@ pub fn ask_over<I: SizedKeys + Drop, W: Write>(
         methods: &program.methods,
         impls: &program.impls,
         rules: &[],
+        serve: false,
         ids,
         names,
         no_ids,

@@ -19,7 +19,9 @@ use std::fmt::{self, Write};
 use text_clauses::building::build_clause;
 use text_clauses::printing::write_clause;
 use text_proving::open::ask_open_proof;
-use text_proving::proving::{ProofResult, WhyNot, ask_proof, place_named, proof_text};
+use text_proving::proving::{
+    ProofResult, WhyNot, ask_proof, place_named, proof_text, rules_refusal,
+};
 use text_proving::rules::{RuleOf, rule_of, rules_held};
 use text_proving::sources::{Source, source_held, write_source};
 use text_reading::naming::{Impl, Parts};
@@ -29,6 +31,7 @@ use text_terms::printing::TextsOf;
 // What is asked: whether a goal follows from rules in an environment.
 #[derive(Drop)]
 struct Proof<X: Copy> {
+    // Those of what is assumed stand first.
     rules: Vec<Binder<X, ClausesKey<X>>>,
     // These and those that there may be, or none where there are no such.
     perhaps: Vec<Binder<X, ClausesKey<X>>>,
@@ -127,7 +130,7 @@ pub(super) fn rules_of<I: Interner>(
 }
 
 // How many rules of these impls are none of open ones.
-fn said_count(list: &[Impl]) -> usize {
+pub(super) fn said_count(list: &[Impl]) -> usize {
     let mut count: usize = 0;
     for said in list {
         if !said.open {
@@ -242,10 +245,28 @@ fn source_named<I: Interner>(
     source_at(cx, terms, proof, impls, place)
 }
 
+// Why rules are not asked about, if one may not serve: of what is assumed, and of the program's first impls, so many, if
+// it isn't known of all that they serve.
+pub(super) fn rules_unasked<I: Interner>(
+    ctx: &RefCtxt<I>,
+    terms: &Ready<I>,
+    rules: &[RuleOf<I>],
+    impls: usize,
+) -> Option<WhyNot> {
+    let tested = if terms.serve {
+        rules.len().saturating_sub(impls)
+    } else {
+        rules.len()
+    };
+    rules_refusal(ctx, rules.get(..tested).unwrap_or(rules))
+}
+
 // Asks what a question asks.
 fn told_of<I: Interner>(
     ctx: &mut RefCtxt<I>,
+    terms: &Ready<I>,
     proof: &ProofOf<I>,
+    impls: usize,
     depth: usize,
 ) -> Result<ProofResult<I>, WhyNot>
     requires lawful { IsLawful (I.meaning ctx.old.interner) ctx.old.inner }
@@ -254,6 +275,13 @@ fn told_of<I: Interner>(
     ensures grown { Extends (I.meaning ctx.old.interner) (I.meaning ctx.new.interner) }
     ensures known { IfOk result (KnowsTold (I.meaning ctx.new.interner)) }
 {
+    let said = said_count(terms.impls.get(..impls).unwrap_or(&[]));
+    if let Some(why) = rules_unasked(&*ctx, terms, &proof.rules, said) {
+        return Err(why);
+    }
+    if let Some(why) = rules_unasked(&*ctx, terms, &proof.perhaps, impls) {
+        return Err(why);
+    }
     if proof.perhaps.is_empty() {
         return ask_proof(ctx, &proof.rules, proof.param_env, &proof.goal, depth);
     }
@@ -291,7 +319,7 @@ pub(super) fn ask_proved<I: Interner>(
     let Ok(_) = have_named(ctx, &proof.goal) else {
         return Err(Unasked::Memory);
     };
-    match told_of(ctx, &proof, depth) {
+    match told_of(ctx, terms, &proof, impls, depth) {
         Ok(told) => {
             let source = source_named(&ctx.interner, terms, &proof, impls, &told);
             Ok(Answer::Proved(told, source))

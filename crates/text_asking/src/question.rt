@@ -69,6 +69,8 @@ pub(super) struct Ready<'a, I: Interner> {
     // The impls that goals may follow from, and the rule of each.
     pub impls: &'a [Impl],
     pub rules: &'a [RuleOf<I>],
+    // Whether these serve in every context.
+    pub serve: bool,
     pub ids: &'a [I::Id],
     pub names: &'a [I::Name],
     // The list without ids, which typing modes name.

@@ -8,8 +8,6 @@ ghost use Rattle.relation_proving.specs.RuleTerms.{KnowsRule};
 ghost use Rattle.relation_impls.specs.Answers.{TellsApart, TellsMeeting};
 ghost use Rattle.text_proving.specs.Texts.{impls_text};
 
-pub use crate::refusing::WhyNot;
-use crate::refusing::impls_refusal;
 use kept_records::KeepsRecord;
 use may_relate::HasVariables;
 use relation_folds::error::{RelateFault, RelateResult};
@@ -34,12 +32,12 @@ pub fn ask_impls<C: HasVariables + KeepsRecord>(
     left: RuleOf<C::Interner>,
     right: RuleOf<C::Interner>,
     depth: usize,
-) -> Result<ImplsResult<C::Interner>, WhyNot>
+) -> ImplsResult<C::Interner>
     requires lawful { (C.state ctx.old).lawful }
     requires env_known { KnowsEnv (C.state ctx.old) param_env }
-    requires rules_known { All (KnowsRule (C.state ctx.old)) rules.now }
-    requires left_known { KnowsRule (C.state ctx.old) left }
-    requires right_known { KnowsRule (C.state ctx.old) right }
+    requires rules { All (MayServe (C.state ctx.old)) rules.now }
+    requires left { MayServe (C.state ctx.old) left }
+    requires right { MayServe (C.state ctx.old) right }
     ensures apart { IfOk result (λ told. IfOk told (TellsApart (C.state ctx.old) rules.now left right)) }
     ensures meets { IfOk result (λ told. IfOk told (TellsMeeting (C.state ctx.old) rules.now left right)) }
     ensures back { IfOk result (λ told. IfOk told (λ x. SameRecord (C.state ctx.old) (C.state ctx.new))) }
@@ -47,11 +45,8 @@ pub fn ask_impls<C: HasVariables + KeepsRecord>(
     ensures lawful { (C.state ctx.new).lawful }
     ensures grown { Extends (C.state ctx.old).meaning (C.state ctx.new).meaning }
 {
-    if let Some(why) = impls_refusal(&*ctx, rules, &left, &right) {
-        return Err(why);
-    }
     let span = ctx.cx().dummy_span();
-    Ok(impls_overlap(ctx, rules, param_env, left, right, depth, span))
+    impls_overlap(ctx, rules, param_env, left, right, depth, span)
 }
 
 /// How what is told of two impls is written, but for which bound tells them apart.

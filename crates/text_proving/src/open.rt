@@ -16,7 +16,7 @@ ghost use Rattle.text_proving.specs.Open.{IsNoOrMaybe, unclear_if_apart};
 
 use crate::impls::ImplsResult;
 use crate::proving::ProofResult;
-use crate::refusing::{WhyNot, open_impls_refusal, open_refusal};
+use crate::refusing::{WhyNot, goal_refusal};
 use kept_records::KeepsRecord;
 use may_relate::HasVariables;
 use relation_impls::impls::{Impls, Why, impls_overlap};
@@ -105,8 +105,8 @@ pub fn ask_open_proof<C: HasVariables + KeepsRecord>(
 ) -> Result<ProofResult<C::Interner>, WhyNot>
     requires lawful { (C.state ctx.old).lawful }
     requires env_known { KnowsEnv (C.state ctx.old) param_env }
-    requires said_known { All (KnowsRule (C.state ctx.old)) said.now }
-    requires perhaps_known { All (KnowsRule (C.state ctx.old)) perhaps.now }
+    requires said { All (MayServe (C.state ctx.old)) said.now }
+    requires perhaps { All (MayServe (C.state ctx.old)) perhaps.now }
     requires goal_known { IsTrue (known ((C.state ctx.old).meaning.clause goal.now)) }
     ensures closed { IfOk result (λ told. All (IsClosedRule (C.state ctx.old)) said.now) }
     ensures derives { IfOk result (YesDerives (C.state ctx.old) (C.state ctx.new) said.now goal.now param_env) }
@@ -121,7 +121,7 @@ pub fn ask_open_proof<C: HasVariables + KeepsRecord>(
     ensures lawful { (C.state ctx.new).lawful }
     ensures grown { Extends (C.state ctx.old).meaning (C.state ctx.new).meaning }
 {
-    if let Some(why) = open_refusal(&*ctx, said, perhaps, goal) {
+    if let Some(why) = goal_refusal(&*ctx, goal) {
         return Err(why);
     }
     let span = ctx.cx().dummy_span();
@@ -185,13 +185,13 @@ pub fn ask_open_impls<C: HasVariables + KeepsRecord>(
     left: RuleOf<C::Interner>,
     right: RuleOf<C::Interner>,
     depth: usize,
-) -> Result<ImplsResult<C::Interner>, WhyNot>
+) -> ImplsResult<C::Interner>
     requires lawful { (C.state ctx.old).lawful }
     requires env_known { KnowsEnv (C.state ctx.old) param_env }
-    requires said_known { All (KnowsRule (C.state ctx.old)) said.now }
-    requires perhaps_known { All (KnowsRule (C.state ctx.old)) perhaps.now }
-    requires left_known { KnowsRule (C.state ctx.old) left }
-    requires right_known { KnowsRule (C.state ctx.old) right }
+    requires said { All (MayServe (C.state ctx.old)) said.now }
+    requires perhaps { All (MayServe (C.state ctx.old)) perhaps.now }
+    requires left { MayServe (C.state ctx.old) left }
+    requires right { MayServe (C.state ctx.old) right }
     ensures apart { IfOk result (λ told. IfOk told (TellsApart (C.state ctx.old) perhaps.now left right)) }
     ensures meets { IfOk result (λ told. IfOk told (TellsMeeting (C.state ctx.old) said.now left right)) }
     ensures back { IfOk result (λ told. IfOk told (λ x. SameRecord (C.state ctx.old) (C.state ctx.new))) }
@@ -199,9 +199,6 @@ pub fn ask_open_impls<C: HasVariables + KeepsRecord>(
     ensures lawful { (C.state ctx.new).lawful }
     ensures grown { Extends (C.state ctx.old).meaning (C.state ctx.new).meaning }
 {
-    if let Some(why) = open_impls_refusal(&*ctx, said, perhaps, &left, &right) {
-        return Err(why);
-    }
     let span = ctx.cx().dummy_span();
-    Ok(overlap_open(ctx, said, perhaps, param_env, left, right, depth, span))
+    overlap_open(ctx, said, perhaps, param_env, left, right, depth, span)
 }

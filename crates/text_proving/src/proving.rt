@@ -7,11 +7,11 @@ ghost use Rattle.relation_semantics.specs.Contexts.{KnowsEnv};
 ghost use Rattle.relation_semantics.specs.Steps.{IsLater};
 ghost use Rattle.relation_proving.specs.Answers.{YesDerives, YesIsBy, YesMakesFollow, YesLosesNone};
 ghost use Rattle.relation_proving.specs.Answers.{NoFollowsNever, NoNamesKnown, LeavesNothing};
-ghost use Rattle.relation_proving.specs.RuleTerms.{KnowsRule, IsClosedRule};
+ghost use Rattle.text_proving.specs.Asked.{MayServe};
 ghost use Rattle.text_proving.specs.Texts.{place_named, proof_text, unasked_text};
 
-pub use crate::refusing::WhyNot;
-use crate::refusing::refusal;
+use crate::refusing::goal_refusal;
+pub use crate::refusing::{WhyNot, rules_refusal};
 use kept_records::KeepsRecord;
 use may_relate::{HasVariables, Unfit};
 use relation_folds::error::{RelateFault, RelateResult};
@@ -22,8 +22,8 @@ use relation_terms::terms::{Clause, Interner, ParamEnv};
 /// What comes of asking whether a goal follows.
 pub type ProofResult<I> = RelateResult<I, ToldOf<I>>;
 
-/// Whether a goal follows from rules in a context, within a depth, as `prove` tells. The interner knows the rules, the
-/// environment and the goal.
+/// Whether a goal follows from rules in a context, within a depth, as `prove` tells. The interner knows the environment and
+/// the goal, and `rules_refusal` tells of nothing against the rules.
 ///
 /// # Errors
 /// What stands in the way of asking: then the context is as it was.
@@ -37,9 +37,8 @@ pub fn ask_proof<C: HasVariables + KeepsRecord>(
 ) -> Result<ProofResult<C::Interner>, WhyNot>
     requires lawful { (C.state ctx.old).lawful }
     requires env_known { KnowsEnv (C.state ctx.old) param_env }
-    requires rules_known { All (KnowsRule (C.state ctx.old)) rules.now }
+    requires rules { All (MayServe (C.state ctx.old)) rules.now }
     requires goal_known { IsTrue (known ((C.state ctx.old).meaning.clause goal.now)) }
-    ensures closed { IfOk result (λ told. All (IsClosedRule (C.state ctx.old)) rules.now) }
     ensures derives { IfOk result (YesDerives (C.state ctx.old) (C.state ctx.new) rules.now goal.now param_env) }
     ensures is_by { IfOk result (YesIsBy (C.state ctx.old) (C.state ctx.new) rules.now goal.now param_env) }
     ensures sound { IfOk result (YesMakesFollow (C.state ctx.old) (C.state ctx.new) rules.now goal.now) }
@@ -52,7 +51,7 @@ pub fn ask_proof<C: HasVariables + KeepsRecord>(
     ensures lawful { (C.state ctx.new).lawful }
     ensures grown { Extends (C.state ctx.old).meaning (C.state ctx.new).meaning }
 {
-    if let Some(why) = refusal(&*ctx, rules, goal) {
+    if let Some(why) = goal_refusal(&*ctx, goal) {
         return Err(why);
     }
     let span = ctx.cx().dummy_span();

@@ -100,8 +100,8 @@ fn rule_refusal<C: HasVariables>(ctx: &C, rule: &RuleOf<C::Interner>) -> Option<
     None
 }
 
-// Why rules are not asked about, if one may not be.
-fn rules_refusal<C: HasVariables>(ctx: &C, rules: &[RuleOf<C::Interner>]) -> Option<WhyNot>
+/// Why rules are not asked about, if one may not serve.
+pub fn rules_refusal<C: HasVariables>(ctx: &C, rules: &[RuleOf<C::Interner>]) -> Option<WhyNot>
     requires { All (KnowsRule (C.state ctx.now)) rules.now }
     ensures { IfNone result (All (MayServe (C.state ctx.now)) rules.now) }
 {
@@ -113,8 +113,8 @@ fn rules_refusal<C: HasVariables>(ctx: &C, rules: &[RuleOf<C::Interner>]) -> Opt
     None
 }
 
-// Why a goal is not asked about, if it may not be.
-fn goal_refusal<C: HasVariables>(ctx: &C, goal: &Clause<C::Interner>) -> Option<WhyNot>
+/// Why a goal is not asked about, if it may not be.
+pub(crate) fn goal_refusal<C: HasVariables>(ctx: &C, goal: &Clause<C::Interner>) -> Option<WhyNot>
     requires { IsTrue (known ((C.state ctx.now).meaning.clause goal.now)) }
     ensures { IfNone result (MayAsk (C.state ctx.now) goal.now) }
 {
@@ -124,99 +124,4 @@ fn goal_refusal<C: HasVariables>(ctx: &C, goal: &Clause<C::Interner>) -> Option<
         ClauseKind::Projection(value) => term_refusal(ctx, &Binder { value, bound_vars }),
         _ => Some(WhyNot::NoTrait),
     }
-}
-
-/// Why it is not asked whether a goal follows from rules, if it may not be.
-pub(crate) fn refusal<C: HasVariables>(
-    ctx: &C,
-    rules: &[RuleOf<C::Interner>],
-    goal: &Clause<C::Interner>,
-) -> Option<WhyNot>
-    requires rules_known { All (KnowsRule (C.state ctx.now)) rules.now }
-    requires goal_known { IsTrue (known ((C.state ctx.now).meaning.clause goal.now)) }
-    ensures rules { IfNone result (All (MayServe (C.state ctx.now)) rules.now) }
-    ensures goal { IfNone result (MayAsk (C.state ctx.now) goal.now) }
-{
-    if let Some(why) = rules_refusal(ctx, rules) {
-        return Some(why);
-    }
-    if let Some(why) = goal_refusal(ctx, goal) {
-        return Some(why);
-    }
-    None
-}
-
-/// Why it is not asked whether two impls overlap by rules, if it may not be.
-pub(crate) fn impls_refusal<C: HasVariables>(
-    ctx: &C,
-    rules: &[RuleOf<C::Interner>],
-    left: &RuleOf<C::Interner>,
-    right: &RuleOf<C::Interner>,
-) -> Option<WhyNot>
-    requires rules_known { All (KnowsRule (C.state ctx.now)) rules.now }
-    requires left_known { KnowsRule (C.state ctx.now) left.now }
-    requires right_known { KnowsRule (C.state ctx.now) right.now }
-    ensures rules { IfNone result (All (MayServe (C.state ctx.now)) rules.now) }
-    ensures left { IfNone result (MayServe (C.state ctx.now) left.now) }
-    ensures right { IfNone result (MayServe (C.state ctx.now) right.now) }
-{
-    if let Some(why) = rules_refusal(ctx, rules) {
-        return Some(why);
-    }
-    if let Some(why) = rule_refusal(ctx, left) {
-        return Some(why);
-    }
-    if let Some(why) = rule_refusal(ctx, right) {
-        return Some(why);
-    }
-    None
-}
-
-/// The same where there may be more rules than are said.
-pub(crate) fn open_refusal<C: HasVariables>(
-    ctx: &C,
-    said: &[RuleOf<C::Interner>],
-    perhaps: &[RuleOf<C::Interner>],
-    goal: &Clause<C::Interner>,
-) -> Option<WhyNot>
-    requires said_known { All (KnowsRule (C.state ctx.now)) said.now }
-    requires perhaps_known { All (KnowsRule (C.state ctx.now)) perhaps.now }
-    requires goal_known { IsTrue (known ((C.state ctx.now).meaning.clause goal.now)) }
-    ensures said { IfNone result (All (MayServe (C.state ctx.now)) said.now) }
-    ensures perhaps { IfNone result (All (MayServe (C.state ctx.now)) perhaps.now) }
-    ensures goal { IfNone result (MayAsk (C.state ctx.now) goal.now) }
-{
-    if let Some(why) = rules_refusal(ctx, said) {
-        return Some(why);
-    }
-    if let Some(why) = rules_refusal(ctx, perhaps) {
-        return Some(why);
-    }
-    if let Some(why) = goal_refusal(ctx, goal) {
-        return Some(why);
-    }
-    None
-}
-
-/// The same of two impls.
-pub(crate) fn open_impls_refusal<C: HasVariables>(
-    ctx: &C,
-    said: &[RuleOf<C::Interner>],
-    perhaps: &[RuleOf<C::Interner>],
-    left: &RuleOf<C::Interner>,
-    right: &RuleOf<C::Interner>,
-) -> Option<WhyNot>
-    requires said_known { All (KnowsRule (C.state ctx.now)) said.now }
-    requires perhaps_known { All (KnowsRule (C.state ctx.now)) perhaps.now }
-    requires left_known { KnowsRule (C.state ctx.now) left.now }
-    requires right_known { KnowsRule (C.state ctx.now) right.now }
-    ensures said { IfNone result (All (MayServe (C.state ctx.now)) said.now) }
-    ensures perhaps { IfNone result (All (MayServe (C.state ctx.now)) perhaps.now) }
-    ensures left { IfNone result (MayServe (C.state ctx.now) left.now) }
-    ensures right { IfNone result (MayServe (C.state ctx.now) right.now) }
-{
-    if let Some(why) = rules_refusal(ctx, said) {
-        return Some(why);
-    }
-    impls_refusal(ctx, perhaps, left, right)
 }
