@@ -121,7 +121,7 @@ fn follows<C: KeepsRecord>(
 }
 
 // Whether a goal follows by some rule. Of one of which all solutions make one thing the first by which it follows is
-// enough.
+// enough. A rule that gives another trait or form is passed over.
 #[cycle(proving)]
 fn follows_by_some<C: KeepsRecord>(
     ctx: &mut C,
@@ -147,6 +147,9 @@ fn follows_by_some<C: KeepsRecord>(
         if is_over(&search, read.is_one) {
             return Ok(settle(ctx, search));
         }
+        if is_passed_over(&*ctx, rule, &read.goal) {
+            continue;
+        }
         let tried = try_and_put_back(
             ctx, rules, param_env, *rule, place, read, depth, span, asked,
         )?;
@@ -155,8 +158,7 @@ fn follows_by_some<C: KeepsRecord>(
     Ok(settle(ctx, search))
 }
 
-// Tries a rule, and puts the record back, unless the goal follows by it and that is enough. One that gives another trait
-// or form is passed over.
+// Tries a rule, and puts the record back, unless the goal follows by it and that is enough.
 #[cycle(proving)]
 fn try_and_put_back<C: KeepsRecord>(
     ctx: &mut C,
@@ -180,9 +182,6 @@ fn try_and_put_back<C: KeepsRecord>(
     ensures remembers { let d = C.state ctx.new in
         IfOk result (λ r. RemembersMore d rules.now param_env asked.old asked.new) }
 {
-    if is_passed_over(&*ctx, &rule, &read.goal) {
-        return Ok(Tried::Fails(None));
-    }
     let before = ctx.keep()?;
     let proved = asked.len();
     let told = follows_by(
