@@ -4,7 +4,6 @@ use Rattle.std.specs.Prelude.{Contains, IfOk, Result, Ok, Err}
 use Rattle.std.specs.Cmp.Derive.{both_true}
 use Rattle.std.proofs.lemmas.List.Elements.{All-nil, All-cons}
 use Rattle.term_enums.specs.declared.PredicatePolarity.TheVariants.{Positive}
-use Rattle.relation_terms.specs.declared.terms.binder.Binder.{Binder}
 use Rattle.relation_terms.specs.declared.terms.binder.BoundVariableKind.{BoundVariableKind}
 use Rattle.relation_terms.specs.declared.terms.binder.BoundVariableKind.TheVariants.{Ty as TyBound}
 use Rattle.relation_terms.specs.declared.terms.generic_arg.GenericArgKind.{GenericArgKind}
@@ -12,7 +11,6 @@ use Rattle.relation_terms.specs.declared.terms.generic_arg.GenericArgKind.TheVar
 use Rattle.relation_terms.specs.declared.terms.keys.ArgsKey.{ArgsKey}
 use Rattle.relation_terms.specs.declared.terms.keys.BoundVarsKey.{BoundVarsKey}
 use Rattle.relation_terms.specs.declared.terms.keys.ClauseKey.{ClauseKey}
-use Rattle.relation_terms.specs.declared.terms.keys.ClausesKey.{ClausesKey}
 use Rattle.relation_terms.specs.declared.terms.keys.TyKey.{TyKey}
 use Rattle.relation_terms.specs.Heads.{bound_kind, type_kind, adt, trait_ref, trait_clause}
 use Rattle.relation_terms.specs.Trees.{Tree, node, bind, nil, cons, known, inst, Leaves, list_tree}
@@ -23,12 +21,13 @@ use Rattle.relation_semantics.specs.Contexts.{Context}
 use Rattle.relation_semantics.specs.FirstOrder.{IsFirstOrder}
 use Rattle.relation_semantics.specs.Relation.{IsValueLeaf}
 use Rattle.relation_solver.specs.Rules.{Rule, given}
+use Rattle.relation_proving.specs.declared.opening.KeyedRule.{KeyedRule}
 use Rattle.relation_proving.specs.RuleTerms.{IsRule, rule_tree}
 use Rattle.relation_proving.specs.Candidates.{AreVariablesFor, IsFirstOrderClause, IsFirstOrderRule}
 use Rattle.examples.specs.Ranked.{ranked_clause, vec_over, bound_param, impl_for_vecs}
 
 -- A rule stays known while the interner grows.
-pub knows_rule : {Key Id Name : Type 0} {m n : Meaning Key Id Name} → Extends m n → (r : Binder Key (ClausesKey Key)) →
+pub knows_rule : {Key Id Name : Type 0} {m n : Meaning Key Id Name} → Extends m n → (r : KeyedRule Key) →
     IsTrue (known (rule_tree m r)) → IsTrue (known (rule_tree n r))
 knows_rule {m = m} {n = n} e r h = subst (λ t. IsTrue (known t))
     (sym (under_stays (m.bound_vars r.bound_vars) (n.bound_vars r.bound_vars) (m.clauses r.value) (n.clauses r.value)
@@ -80,7 +79,7 @@ module _ {Key Id Name : Type 0} (m n : Meaning Key Id Name) (e : Extends m n) (c
 
 module _ {Key Id Name : Type 0} (m n o : Meaning Key Id Name) (e : Extends m n) (f : Extends n o)
     (cs : List (ClauseKey Key)) (h : IsTrue (known (list_tree m.clause cs))) where
-  pub rule_made : (r : Binder Key (ClausesKey Key)) (bs : List (BoundVariableKind Name)) →
+  pub rule_made : (r : KeyedRule Key) (bs : List (BoundVariableKind Name)) →
       n.bound_vars r.bound_vars ≡ Some (bound_kinds m bs) → o.clauses r.value ≡ list_tree n.clause cs →
       rule_tree o r ≡ bind (bound_kinds m bs) (list_tree m.clause cs)
   rule_made r bs binds made =
@@ -120,7 +119,7 @@ module _ {Key Id Name : Type 0} (m n o p q : Meaning Key Id Name) (e : Extends m
     shadowed_by_none = refl;
   }
 
-  pub impl_result : {E : Type 0} (w : Meaning Key Id Name) (r : Result (Binder Key (ClausesKey Key)) E)
+  pub impl_result : {E : Type 0} (w : Meaning Key Id Name) (r : Result (KeyedRule Key) E)
       (bs : List (BoundVariableKind Name)) → bs ≡ TyBound s ∷ [] →
       IfOk r (λ k. rule_tree w k ≡ bind (bound_kinds q bs) (list_tree q.clause cs)) →
       IfOk r (λ k. IsRule (rule_tree w k) (impl_for_vecs (m.id v) (m.id d) (m.name s)))
@@ -133,7 +132,7 @@ module _ {Key Id Name : Type 0} (m : Meaning Key Id Name) (k : ClauseKey Key) (c
   pub alone_known : IsTrue (known (m.clause k)) → IsTrue (known (list_tree m.clause cs))
   alone_known h = subst (λ x. IsTrue (known (list_tree m.clause x))) (sym one) (both_true h refl)
 
-  pub given_result : {E : Type 0} (n : Meaning Key Id Name) (r : Result (Binder Key (ClausesKey Key)) E)
+  pub given_result : {E : Type 0} (n : Meaning Key Id Name) (r : Result (KeyedRule Key) E)
       (bs : List (BoundVariableKind Name)) → bs ≡ [] →
       IfOk r (λ x. rule_tree n x ≡ bind (bound_kinds m bs) (list_tree m.clause cs)) →
       IfOk r (λ x. IsRule (rule_tree n x) (given (m.clause k)))
@@ -151,18 +150,18 @@ pub given_known : (t g : Tree) → IsRule t (given g) → IsTrue (known g) → I
 given_known t g is h = subst (λ x. IsTrue (known x)) (sym is.clauses) (both_true h refl)
 
 pub given_known_result : {Key Id Name E : Type 0} (m n : Meaning Key Id Name) (k : ClauseKey Key)
-    (r : Result (Binder Key (ClausesKey Key)) E) → IsTrue (known (m.clause k)) →
+    (r : Result (KeyedRule Key) E) → IsTrue (known (m.clause k)) →
     IfOk r (λ x. IsRule (rule_tree n x) (given (m.clause k))) → IfOk r (λ x. IsTrue (known (rule_tree n x)))
 given_known_result m n k (Ok x) h is = given_known (rule_tree n x) (m.clause k) is h
 given_known_result m n k (Err x) h is = tt
 
 -- And so is what is asked for of two.
 pub both_known : {Key Id Name : Type 0} (m n : Meaning Key Id Name) → Extends m n →
-    (first second : Binder Key (ClausesKey Key)) (rs : List (Binder Key (ClausesKey Key))) →
+    (first second : KeyedRule Key) (rs : List (KeyedRule Key)) →
     rs ≡ first ∷ second ∷ [] → IsTrue (known (rule_tree m first)) → IsTrue (known (rule_tree m second)) →
     All (λ r. IsTrue (known (rule_tree n r))) rs
 both_known {Key} m n e first second rs two f s =
-    let here = λ (r : Binder Key (ClausesKey Key)). IsTrue (known (rule_tree n r)) in
+    let here = λ (r : KeyedRule Key). IsTrue (known (rule_tree n r)) in
     subst (All here) (sym two) (All-cons here first (second ∷ []) (knows_rule e first f)
     (All-cons here second [] (knows_rule e second s) (All-nil here)))
 
@@ -179,7 +178,7 @@ impl_clauses v d n (x ∷ []) h =
     (All-nil IsFirstOrderClause))
 impl_clauses v d n (x ∷ y ∷ ys) h = absurd h.1
 
-pub impl_first_order : {Key Id Name : Type 0} (c : Context Key Id Name) (k : Binder Key (ClausesKey Key)) (v d n : ℕ) →
+pub impl_first_order : {Key Id Name : Type 0} (c : Context Key Id Name) (k : KeyedRule Key) (v d n : ℕ) →
     IsRule (rule_tree c.meaning k) (impl_for_vecs v d n) → IsFirstOrderRule c k (impl_for_vecs v d n)
 impl_first_order c k v d n is = record {
   rule = record {
@@ -191,11 +190,11 @@ impl_first_order c k v d n is = record {
 
 -- The same of three; and the first two are of the three.
 pub three_known : {Key Id Name : Type 0} (m n : Meaning Key Id Name) → Extends m n →
-    (first second third : Binder Key (ClausesKey Key)) (rs : List (Binder Key (ClausesKey Key))) →
+    (first second third : KeyedRule Key) (rs : List (KeyedRule Key)) →
     rs ≡ first ∷ second ∷ third ∷ [] → IsTrue (known (rule_tree m first)) → IsTrue (known (rule_tree m second)) →
     IsTrue (known (rule_tree m third)) → All (λ r. IsTrue (known (rule_tree n r))) rs
 three_known {Key} m n e first second third rs three f s t =
-    let here = λ (r : Binder Key (ClausesKey Key)). IsTrue (known (rule_tree n r)) in
+    let here = λ (r : KeyedRule Key). IsTrue (known (rule_tree n r)) in
     subst (All here) (sym three) (All-cons here first (second ∷ third ∷ []) (knows_rule e first f)
     (both_known m n e second third (second ∷ third ∷ []) refl s t))
 

@@ -3,9 +3,7 @@ use Rattle.std.proofs.Common.{◌≡◌, ℕ, ◌+◌, ◌<◌, ◌≤◌, List,
 use Rattle.std.specs.Prelude.{IfOk, Result, Ok, Err}
 use Rattle.std.proofs.lemmas.List.{take_all}
 use Rattle.std.proofs.lemmas.List.Elements.{All-nil, All-get_or, All-more}
-use Rattle.relation_terms.specs.declared.terms.binder.Binder.{Binder}
 use Rattle.relation_terms.specs.declared.terms.keys.ClauseKey.{ClauseKey}
-use Rattle.relation_terms.specs.declared.terms.keys.ClausesKey.{ClausesKey}
 use Rattle.relation_terms.specs.Trees.{Assign, apply}
 use Rattle.relation_semantics.specs.Contexts.{Context}
 use Rattle.relation_semantics.specs.FirstOrder.{IsErasedSolution}
@@ -13,6 +11,7 @@ use Rattle.relation_semantics.specs.Steps.{AgreeErased, HasErasedExtension}
 use Rattle.relation_semantics.proofs.Exactness.{erased_through}
 use Rattle.kept_records.specs.Records.{SameRecord}
 use Rattle.relation_solver.specs.Rules.{Rule, one, Follows}
+use Rattle.relation_proving.specs.declared.opening.KeyedRule.{KeyedRule}
 use Rattle.relation_proving.specs.Answers.{YesMakesFollow, YesLosesNone, NoFollowsNever, YesStaysFirstOrder}
 use Rattle.relation_proving.specs.Candidates.{MayAsk, IsFirstOrderAt, IsFirstOrderClause}
 use Rattle.relation_proving.specs.RuleTerms.{MayUse}
@@ -34,7 +33,7 @@ abbrev pub IsNotApart : Impls → Type 0
 IsNotApart (Apart why) = ⊥
 IsNotApart told = Unit {0}
 
-module _ {Key Id Name : Type 0} (c : Context Key Id Name) (ks : List (Binder Key (ClausesKey Key)))
+module _ {Key Id Name : Type 0} (c : Context Key Id Name) (ks : List (KeyedRule Key))
     (gs : List (ClauseKey Key)) where
   -- Of the first n: what is recorded goes on; and as long as all were proved, each solution that is left makes these
   -- follow.

@@ -3,9 +3,7 @@ use Rattle.std.proofs.Common.{◌≡◌, ℕ, List, [], ◌++◌, refl, sym, ◌
 use Rattle.std.specs.Prelude.{IfOk, Result, Ok, Err}
 use Rattle.std.specs.Global.{Vec}
 use Rattle.std.proofs.lemmas.List.Elements.{All-nil, All-append}
-use Rattle.relation_terms.specs.declared.terms.binder.Binder.{Binder}
 use Rattle.relation_terms.specs.declared.terms.keys.ClauseKey.{ClauseKey}
-use Rattle.relation_terms.specs.declared.terms.keys.ClausesKey.{ClausesKey}
 use Rattle.relation_terms.specs.declared.terms.keys.ParamEnvKey.{ParamEnvKey}
 use Rattle.relation_terms.specs.Trees.{Tree, Assign, apply, inst, Leaves}
 use Rattle.relation_terms.specs.Erasure.{erase}
@@ -20,6 +18,7 @@ use Rattle.relation_solver.specs.Rules.{Rule, one, all, Follows}
 use Rattle.relation_solver.proofs.Opened.{opened_value, opened_values, before_making}
 use Rattle.relation_solver.proofs.Opened.{opened_are_unconstrained}
 use Rattle.relation_solver.proofs.Solving.{follows_all, fitted, fitted_agrees, asks_alike}
+use Rattle.relation_proving.specs.declared.opening.KeyedRule.{KeyedRule}
 use Rattle.relation_proving.specs.declared.candidate.Candidate.TheVariants.{Asks, Apart as GivesNothing}
 use Rattle.relation_proving.specs.Candidates.{MayAsk, IsFirstOrderClause, MayTry, TellsCandidate, AsksFor}
 use Rattle.relation_proving.specs.RuleTerms.{MayUse}
@@ -33,7 +32,7 @@ use Rattle.relation_impls.proofs.Following.{clauses_follow, follow_as_list, all_
 use Rattle.relation_folds.proofs.Lists.{All_front, All_back}
 
 module _ {Key Id Name : Type 0} (c d e : Context Key Id Name) (env : ParamEnvKey Key)
-    (ks : List (Binder Key (ClausesKey Key))) (left : Binder Key (ClausesKey Key)) (given : ClauseKey Key)
+    (ks : List (KeyedRule Key)) (left : KeyedRule Key) (given : ClauseKey Key)
     (asks : List (ClauseKey Key)) (uses : All (MayUse c) ks) (may : MayAsk c given) (asked : All (MayAsk c) asks)
     (on : GoesOn c d) where
   abbrev goal : Tree

@@ -2,9 +2,7 @@
 use Rattle.std.proofs.Common.{◌≡◌, ℕ, List, [], ◌∷◌, refl, sym, ◌∙◌, ap, subst, map, All, IsTrue}
 use Rattle.std.specs.Prelude.{IfOk, Result, Ok, Err}
 use Rattle.std.proofs.lemmas.List.Elements.{All-head, All-tail}
-use Rattle.relation_terms.specs.declared.terms.binder.Binder.{Binder}
 use Rattle.relation_terms.specs.declared.terms.keys.ClauseKey.{ClauseKey}
-use Rattle.relation_terms.specs.declared.terms.keys.ClausesKey.{ClausesKey}
 use Rattle.relation_terms.specs.Trees.{Tree, Assign, apply, inst, known}
 use Rattle.relation_terms.specs.Erasure.{erase}
 use Rattle.relation_semantics.specs.Contexts.{Context}
@@ -17,6 +15,7 @@ use Rattle.relation_solver.specs.Rules.{Rule, all, Follows}
 use Rattle.relation_solver.specs.Traces.{Opens}
 use Rattle.relation_solver.proofs.Opened.{opened_value, opened_values}
 use Rattle.relation_solver.proofs.Opened.{opened_are_unconstrained}
+use Rattle.relation_proving.specs.declared.opening.KeyedRule.{KeyedRule}
 use Rattle.relation_proving.specs.Candidates.{MayAsk, IsFirstOrderAt, IsFirstOrderClause}
 use Rattle.relation_proving.specs.RuleTerms.{MayUse, OpensRule}
 use Rattle.relation_proving.specs.Telling.{GoesOn, goal_tree}
@@ -32,7 +31,7 @@ use Rattle.relation_impls.proofs.Following.{clauses_follow, follow_as_list}
 use Rattle.relation_folds.proofs.Lists.{list_first, list_others}
 
 -- What an opened rule asks for may be asked.
-pub others_may : {Key Id Name : Type 0} (c d : Context Key Id Name) (rule : Binder Key (ClausesKey Key))
+pub others_may : {Key Id Name : Type 0} (c d : Context Key Id Name) (rule : KeyedRule Key)
     (given : ClauseKey Key) (clauses asks : List (ClauseKey Key)) → clauses ≡ given ∷ asks →
     OpensRule c d rule clauses → All (MayAsk d) asks
 others_may c d rule given clauses asks is o =
@@ -46,8 +45,8 @@ others_may c d rule given clauses asks is o =
 met : (st : Store) → IsSound st → (s : Assign) × IsErasedSolution st s
 met st g = let p = bindings_are_met st g in (p.0, (p.1, λ k n t e. ap erase (p.2 k n t e)))
 
-module _ {Key Id Name : Type 0} (c d e : Context Key Id Name) (ks : List (Binder Key (ClausesKey Key)))
-    (left right : Binder Key (ClausesKey Key)) (given : ClauseKey Key) (asks : List (ClauseKey Key))
+module _ {Key Id Name : Type 0} (c d e : Context Key Id Name) (ks : List (KeyedRule Key))
+    (left right : KeyedRule Key) (given : ClauseKey Key) (asks : List (ClauseKey Key))
     (uses : All (MayUse c) ks) (may_left : MayUse c left) (on : GoesOn c d) (o : OpensRule c d right (given ∷ asks))
   where
     abbrev u : ℕ

@@ -8,9 +8,7 @@
 --   TellsBounds c d ks gs x     what is told of bounds that were asked
 --   TellsOpened c d ks k g gs x   what is told of an impl and one that was opened
 use Rattle.std.specs.Prelude.{◌≡◌, ℕ, List, [], All, map}
-use Rattle.relation_terms.specs.declared.terms.binder.Binder.{Binder}
 use Rattle.relation_terms.specs.declared.terms.keys.ClauseKey.{ClauseKey}
-use Rattle.relation_terms.specs.declared.terms.keys.ClausesKey.{ClausesKey}
 use Rattle.relation_terms.specs.Trees.{Tree, Assign, apply, inst}
 use Rattle.relation_terms.specs.Erasure.{erase}
 use Rattle.relation_semantics.specs.Contexts.{Context}
@@ -18,6 +16,7 @@ use Rattle.relation_semantics.specs.FirstOrder.{IsErasedSolution}
 use Rattle.relation_semantics.specs.Relation.{FitKinds}
 use Rattle.relation_semantics.specs.Steps.{AllNamable, HasErasedExtension}
 use Rattle.relation_solver.specs.Rules.{Rule, one, all, Follows}
+use Rattle.relation_proving.specs.declared.opening.KeyedRule.{KeyedRule}
 use Rattle.relation_proving.specs.Candidates.{IsFirstOrderAt, IsFirstOrderClause, IsFirstOrderRule}
 use Rattle.relation_proving.specs.Telling.{IsExact, goal_tree}
 use Rattle.relation_impls.specs.declared.answer.WhyApart.TheVariants.{ByForm, ByBound}
@@ -39,7 +38,7 @@ module _ {Key Id Name : Type 0} where
   -- gives one with that, so that all which both ask for follows.
   module _ (c : Context Key Id Name) (given : ClauseKey Key) (asks : List (ClauseKey Key)) (u : ℕ) (rs : List Rule)
       (a : Rule) where
-    pub record MayMeet (ks : List (Binder Key (ClausesKey Key))) (left : Binder Key (ClausesKey Key)) : Type 0 where
+    pub record MayMeet (ks : List (KeyedRule Key)) (left : KeyedRule Key) : Type 0 where
       pub rules : IsExact u c ks rs
       pub left_rule : IsFirstOrderRule c left a
       pub given_first_order : IsFirstOrderClause (goal_tree c given)
@@ -58,7 +57,7 @@ module _ {Key Id Name : Type 0} where
         HasErasedExtension c.store s (IsErasedSolution d.store)
     pub shrinks : (s : Assign) → IsErasedSolution d.store s → IsErasedSolution c.store s
 
-  module _ (c d : Context Key Id Name) (ks : List (Binder Key (ClausesKey Key))) where
+  module _ (c d : Context Key Id Name) (ks : List (KeyedRule Key)) where
     -- Of bounds that were asked: under no solution all follow; or under each that is left all do; or it goes on.
     module _ (gs : List (ClauseKey Key)) where
       abbrev WhereExact : (ℕ → List Rule → Type 0) → Type 0
@@ -74,7 +73,7 @@ module _ {Key Id Name : Type 0} where
       TellsBounds (Unclear why) = WhereExact (GoesOnWith c d gs)
 
     -- Of an impl and an opened one: under no solution they fit, or meet; or under each that is left they meet.
-    module _ (left : Binder Key (ClausesKey Key)) (given : ClauseKey Key) (asks : List (ClauseKey Key)) where
+    module _ (left : KeyedRule Key) (given : ClauseKey Key) (asks : List (ClauseKey Key)) where
       abbrev WhereMet : (ℕ → List Rule → Rule → Type 0) → Type 0
       WhereMet P = (u : ℕ) (rs : List Rule) (a : Rule) → MayMeet c given asks u rs a ks left → P u rs a
 

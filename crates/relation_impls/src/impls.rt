@@ -14,7 +14,7 @@ use crate::asking::bounds_hold;
 use kept_records::KeepsRecord;
 use relation_folds::error::RelateResult;
 use relation_proving::candidate::{Candidate, try_rule};
-use relation_proving::opening::{RuleOf, open_rule};
+use relation_proving::opening::{RuleKind, RuleOf, open_rule};
 pub use relation_proving::proving::Why;
 use relation_terms::terms::{Clause, ParamEnv, Span};
 
@@ -76,6 +76,9 @@ fn told_of<C: KeepsRecord>(
     ensures apart { IfOk result (TellsApart (C.state ctx.old) rules.now left right) }
     ensures meets { IfOk result (TellsMeeting (C.state ctx.old) rules.now left right) }
 {
+    if let RuleKind::GivesWay = right.kind {
+        return Ok(Impls::Unclear(Why::Ambiguous));
+    }
     let clauses = open_rule(ctx, right)?;
     match clauses.split_first() {
         None => Ok(Impls::Unclear(Why::Ambiguous)),
@@ -104,13 +107,13 @@ fn told_of_opened<C: KeepsRecord>(
     ensures tells { let c = C.state ctx.old in
         IfOk result (TellsOpened c (C.state ctx.new) rules.now left given.now asks.now) }
 {
-    match try_rule(ctx, param_env, left, given, span)? {
+    match try_rule(ctx, rules, param_env, left, given, span)? {
         Candidate::Asks(others) => {
             let mut bounds = others;
             bounds.extend_from_slice(asks)?;
             bounds_hold(ctx, rules, param_env, &bounds, depth, span)
         }
         Candidate::Apart => Ok(Impls::Apart(WhyApart::ByForm)),
-        Candidate::Unclear => Ok(Impls::Unclear(Why::Ambiguous)),
+        Candidate::GivesWay | Candidate::Unclear => Ok(Impls::Unclear(Why::Ambiguous)),
     }
 }

@@ -220,9 +220,10 @@ fn follows_by<C: KeepsRecord>(
     ensures remembers { let d = C.state ctx.new in
         IfOk result (λ r. RemembersMore d rules.now param_env asked.old asked.new) }
 {
-    match try_rule(ctx, param_env, rule, goal, span)? {
+    match try_rule(ctx, rules, param_env, rule, goal, span)? {
         Candidate::Asks(asks) => all_follow(ctx, rules, param_env, asks, place, depth, span, asked),
         Candidate::Apart => Ok(Verdict::Refuted(None)),
+        Candidate::GivesWay => Ok(Verdict::Refuted(None)),
         Candidate::Unclear => Ok(Verdict::Untold(Why::Ambiguous)),
     }
 }
