@@ -1,10 +1,11 @@
 //! Whether two impls overlap, with what each asks for.
-ghost use Rattle.std.specs.Prelude.{All, IfOk};
+ghost use Rattle.std.specs.Prelude.{◌≢◌, All, IfOk};
 ghost use Rattle.relation_terms.specs.Meaning.{Extends};
 ghost use Rattle.relation_semantics.specs.Steps.{IsLater};
 ghost use Rattle.kept_records.specs.Records.{SameRecord};
 ghost use Rattle.relation_proving.specs.Candidates.{MayAsk};
 ghost use Rattle.relation_proving.specs.RuleTerms.{MayUse};
+ghost use Rattle.relation_proving.specs.declared.opening.RuleKind.TheVariants.{GivesWay};
 ghost use Rattle.relation_proving.specs.Telling.{MayProve, GoesOn};
 ghost use Rattle.relation_impls.specs.Answers.{TellsApart, TellsMeeting};
 ghost use Rattle.relation_impls.specs.Telling.{TellsOpened};
@@ -76,9 +77,31 @@ fn told_of<C: KeepsRecord>(
     ensures apart { IfOk result (TellsApart (C.state ctx.old) rules.now left right) }
     ensures meets { IfOk result (TellsMeeting (C.state ctx.old) rules.now left right) }
 {
-    if let RuleKind::GivesWay = right.kind {
-        return Ok(Impls::Unclear(Why::Ambiguous));
+    match right.kind {
+        RuleKind::Plain => told_of_standing(ctx, rules, param_env, left, right, depth, span),
+        RuleKind::Held => told_of_standing(ctx, rules, param_env, left, right, depth, span),
+        RuleKind::GivesWay => Ok(Impls::Unclear(Why::Ambiguous)),
     }
+}
+
+// The same of two, the right one of which doesn't give way.
+fn told_of_standing<C: KeepsRecord>(
+    ctx: &mut C,
+    rules: &[RuleOf<C::Interner>],
+    param_env: ParamEnv<C::Interner>,
+    left: RuleOf<C::Interner>,
+    right: RuleOf<C::Interner>,
+    depth: usize,
+    span: Span<C::Interner>,
+) -> RelateResult<C::Interner, Impls>
+    requires may { MayProve (C.state ctx.old) rules.now param_env }
+    requires left { MayUse (C.state ctx.old) left }
+    requires right { MayUse (C.state ctx.old) right }
+    requires stands { right.kind ≢ GivesWay }
+    ensures goes_on { GoesOn (C.state ctx.old) (C.state ctx.new) }
+    ensures apart { IfOk result (TellsApart (C.state ctx.old) rules.now left right) }
+    ensures meets { IfOk result (TellsMeeting (C.state ctx.old) rules.now left right) }
+{
     let clauses = open_rule(ctx, right)?;
     match clauses.split_first() {
         None => Ok(Impls::Unclear(Why::Ambiguous)),
@@ -114,6 +137,7 @@ fn told_of_opened<C: KeepsRecord>(
             bounds_hold(ctx, rules, param_env, &bounds, depth, span)
         }
         Candidate::Apart => Ok(Impls::Apart(WhyApart::ByForm)),
-        Candidate::GivesWay | Candidate::Unclear => Ok(Impls::Unclear(Why::Ambiguous)),
+        Candidate::GivesWay => Ok(Impls::Unclear(Why::Ambiguous)),
+        Candidate::Unclear => Ok(Impls::Unclear(Why::Ambiguous)),
     }
 }

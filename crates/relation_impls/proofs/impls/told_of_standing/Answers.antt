@@ -5,7 +5,7 @@ use Rattle.relation_proving.specs.Telling.{GoesOn}
 use Rattle.relation_proving.proofs.Candidates.{first_may}
 use Rattle.relation_proving.proofs.GoingOn.{goes_through, proves_on, use_on}
 use Rattle.relation_impls.proofs.Opening.{others_may, tells_apart_result, tells_meeting_result}
-use Rattle.relation_impls.proofs.impls.told_of.Goals as goal
+use Rattle.relation_impls.proofs.impls.told_of_standing.Goals as goal
 
 pub open_rule-requires : goal.open_rule-requires
 open_rule-requires g c = record {
@@ -42,8 +42,8 @@ returns g c =
     record {
       goes_on = goes_through s d f on told.goes_on;
       apart = tells_apart_result s d f c.args.rules.now c.args.left c.args.right c.in-Some.given.now c.in-Some.asks.now
-          c.requires.may.rules c.requires.left on opened c.told_of_opened.result told.tells;
+          c.requires.may.rules c.requires.left on opened c.requires.stands c.told_of_opened.result told.tells;
       meets = tells_meeting_result s d f c.args.rules.now c.args.left c.args.right c.in-Some.given.now c.in-Some.asks.now
-          c.requires.may.rules c.requires.left on opened
+          c.requires.may.rules c.requires.left on opened c.requires.stands
           (g.met.C.InferCtxtLike.sound c.told_of_opened.new.ctx told.goes_on.lawful) c.told_of_opened.result told.tells;
     }
