@@ -32,7 +32,8 @@ pub record FitsBy (u : ℕ) (a : Rule) (given : Tree) (s : Assign) (xs : List Tr
 
 module _ {Key Id Name : Type 0} where
   -- All of these clauses follow under an assignment.
-  abbrev pub AllFollow : Context Key Id Name → List (KeyedRule Key) → ℕ → List Rule → List (ClauseKey Key) → Assign → Type 0
+  abbrev pub AllFollow : Context Key Id Name → List (KeyedRule Key) → ℕ → List Rule → List (ClauseKey Key) →
+      Assign → Type 0
   AllFollow c ks u rs gs s = All (λ g. Follows u (held_of ks rs) rs (one (apply s (goal_tree c g)))) gs
 
   -- Of an impl and of what an opened one gives and asks for: all is first-order; and values for the impl make what it

@@ -1,9 +1,9 @@
 -- What the environment has beside a clause: what relating them tells, and what all that it has tells.
 use Rattle.std.proofs.Common.{◌≡◌, ℕ, zero, suc, ◌<◌, List, [], ◌∷◌, ◌++◌, refl, sym, ◌∙◌, ap, subst, subst₂, map, All, arith}
-use Rattle.std.proofs.Common.{Bool, true, false, Option, Some, None, IsTrue, get_or, length}
+use Rattle.std.proofs.Common.{Bool, true, false, Option, Some, None, IsTrue, get_or, length, take, ◌+◌, IsSome}
 use Rattle.std.specs.Prelude.{Contains, IfOk, Result, Ok, Err, is_some}
 use Rattle.std.specs.List.{AllZip}
-use Rattle.std.proofs.lemmas.List.Elements.{All-nil, All-cons, All-head, All-tail, All-contains, Contains-append_right}
+use Rattle.std.proofs.lemmas.List.Elements.{All-nil, All-cons, All-head, All-tail, All-contains, All-more, Contains-append_right}
 use Rattle.std.proofs.lemmas.List.Elements.{All-contains_itself}
 use Rattle.relation_terms.specs.declared.predicate.kinds.ClauseKind.TheVariants.{Trait}
 use Rattle.relation_terms.specs.declared.predicate.trait_ref.TraitPredicate.{TraitPredicate}
@@ -73,7 +73,8 @@ module _ {Key Id Name : Type 0} where
         let back = x.shrinks met.0 all in
         subst₂ (SomeUnifier c.store) (sym i) (sym j) (met.0, back.0, ap (bind []) back.1)
     beside_told Apart f = (
-      subst₂ (NoEqualTerms c.store) (sym i) (sym j) (λ w s sat same. f.never_one w s sat (bind_path same)),
+      subst₂ (NoEqualTerms c.store) (sym i) (sym j) (λ w s sat same. f.never_one w s sat
+          (bind_path {ks = []} {ls = []} {t = apply s left} {u = apply s right} same)),
       subst₂ (ClausesAreApart c.store) (sym i) (sym j) (λ o. apart_under c.store left right (f.no_unifier (pair o))),
     )
     beside_told Left f = tt
@@ -178,6 +179,10 @@ module _ {Key Id Name : Type 0} where
     held_result (Ok fitting) t = held_told fitting t
     held_result (Err x) t = tt
 
+  pub binds_on : (c d : Context Key Id Name) → Extends c.meaning d.meaning → (k : KeyedRule Key) →
+      BindsNone c.meaning k → BindsNone d.meaning k
+  binds_on c d e k b = e.bound_vars (k.clauses).bound_vars (subst (λ o. IsSome o) (sym b) refl) ∙ b
+
   -- A clause of another trait is none that a rule gives.
   pub another_never : (c : Context Key Id Name) (k : KeyedRule Key) (g : ClauseKey Key) → MayAsk c g →
       GivesAnother c.meaning k g → NeverIs c k g
@@ -279,6 +284,26 @@ module _ {Key Id Name : Type 0} (c : Context Key Id Name) (g : ClauseKey Key) wh
   SoFar ks standing.First = All (λ k. k.kind ≡ Held → NeverIs c k g) ks
   SoFar ks standing.GivesWay = ⊥
   SoFar ks standing.Unclear = Unit {0}
+
+  pub so_far_none : SoFar [] standing.First
+  so_far_none = All-nil (λ k. k.kind ≡ Held → NeverIs c k g)
+
+  -- With the next rule: one that is not of the environment, or one that gives another clause.
+  module _ (ks : List (KeyedRule Key)) (i : ℕ) (k : KeyedRule Key) (is : k ≡ get_or ks i k) (l : i < length ks) where
+    never_more : All (λ k. k.kind ≡ Held → NeverIs c k g) (take i ks) → (k.kind ≡ Held → NeverIs c k g) →
+        All (λ k. k.kind ≡ Held → NeverIs c k g) (take (i + 1) ks)
+    never_more so next = All-more (λ k. k.kind ≡ Held → NeverIs c k g) ks i k l so
+        (subst (λ y. y.kind ≡ Held → NeverIs c y g) is next)
+
+    pub so_far_past : (k.kind ≡ Held → ⊥) → (x : Standing) → SoFar (take i ks) x → SoFar (take (i + 1) ks) x
+    so_far_past n standing.First so = never_more so (λ e. absurd (n e))
+    so_far_past n standing.GivesWay so = absurd so
+    so_far_past n standing.Unclear so = tt
+
+    pub so_far_first : NeverIs c k g → (x : Standing) → SoFar (take i ks) x → SoFar (take (i + 1) ks) x
+    so_far_first n standing.First so = never_more so (λ e. n)
+    so_far_first n standing.GivesWay so = absurd so
+    so_far_first n standing.Unclear so = tt
 
   none_equal : (ks : List (KeyedRule Key)) (rs : List Rule) → All (λ k. k.kind ≡ Held → NeverIs c k g) ks →
       AllZip (IsRuleOf c) ks rs → All (λ h. NoEqualTerms c.store h ((c.meaning).clause g)) (held_of ks rs)

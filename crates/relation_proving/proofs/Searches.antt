@@ -32,7 +32,7 @@ use Rattle.relation_proving.specs.declared.searching.Tried.TheVariants.{Follows,
 use Rattle.relation_proving.specs.declared.searching.Search.{Search}
 use Rattle.relation_proving.specs.declared.searching.Search.TheVariants.{Nothing, Found, Stays, Open}
 use Rattle.relation_proving.specs.Candidates.{MayAsk, IsFirstOrderAt, IsFirstOrderClause, IsFirstOrderRule}
-use Rattle.relation_proving.specs.RuleTerms.{MayUse}
+use Rattle.relation_proving.specs.RuleTerms.{MayUse, held_of}
 use Rattle.relation_proving.specs.Telling.{GoesOn, IsBack, IsExact, goal_tree, TellsGoal, TellsRule}
 use Rattle.relation_proving.specs.Telling.{SaysYesBy, IsProvedBy, KnowsBlame, rule_at}
 use Rattle.relation_proving.specs.RuleTerms.{IsRuleOf}

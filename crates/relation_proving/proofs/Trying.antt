@@ -204,3 +204,14 @@ module _ {Key Id Name : Type 0} where
     giving_result kind clause asks is e then known_clause (Ok x) t =
         told_giving kind clause asks is e then known_clause x t
     giving_result kind clause asks is e then known_clause (Err f) t = tt
+
+  -- Of a goal and an opened rule that gives way to a clause, by what is told of both.
+  pub giving_told : (c d e : Context Key Id Name) (ks : List (KeyedRule Key)) (env : ParamEnvKey Key)
+      (g given clause : ClauseKey Key) (asks : List (ClauseKey Key)) (v : Vec (ClauseKey Key)) → GoesOn c d → IsBack d e →
+      TellsOpened c d env g given asks (candidate.Asks v) → (x : Standing) → TellsStanding d ks clause x →
+      TellsGivingWay c e ks env g given clause asks (candidate_unless v x)
+  giving_told c d e ks env g given clause asks v on back met standing.First t =
+      record { middle = d; met = met; goes_on = on; back = back; standing = t }
+  giving_told c d e ks env g given clause asks v on back met standing.GivesWay t =
+      (v, record { middle = d; met = met; goes_on = on; back = back; standing = t })
+  giving_told c d e ks env g given clause asks v on back met standing.Unclear t = tt

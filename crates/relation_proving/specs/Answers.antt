@@ -37,7 +37,8 @@ module _ {Key Id Name F : Type 0} (c d : Context Key Id Name) (ks : List (KeyedR
   abbrev pub YesDerives : ParamEnvKey Key → Result (Told Key) F → Type 0
   YesDerives e (Ok (Yes i)) = (rs : List Rule) → AllZip (IsRuleOf c) ks rs → (w : Interpretation) (s : Assign) →
       Satisfies w d.store s → Satisfies w c.store s ×
-      Derives (items_of c.meaning) w ((c.meaning).param_env e) (d.store).universe (held_of ks rs) rs (one (apply s (goal_tree c g)))
+      Derives (items_of c.meaning) w ((c.meaning).param_env e) (d.store).universe (held_of ks rs) rs
+      (one (apply s (goal_tree c g)))
   YesDerives e result = Unit {0}
 
   -- After a yes by the rule at a place, which is one of these, what satisfies the record makes the goal derived by it.

@@ -52,8 +52,8 @@ module _ {Key Id Name : Type 0} (c : Context Key Id Name) (ks : List (KeyedRule 
     pub follows : (u : ℕ) (rs : List Rule) → IsExact u c ks rs → IsFirstOrderClause (goal_tree c p.0) →
         (s : Assign) → IsErasedSolution c.store s → Follows u (held_of ks rs) rs (one (apply s (goal_tree c p.0)))
     pub derives : (rs : List Rule) → AllZip (IsRuleOf c) ks rs → (w : Interpretation) (s : Assign) →
-        Satisfies w c.store s → DerivesBy (items_of c.meaning) w ((c.meaning).param_env e) (c.store).universe (held_of ks rs) rs
-        (rule_at rs p.1) (apply s (goal_tree c p.0))
+        Satisfies w c.store s → DerivesBy (items_of c.meaning) w ((c.meaning).param_env e) (c.store).universe
+        (held_of ks rs) rs (rule_at rs p.1) (apply s (goal_tree c p.0))
 
   abbrev pub RemembersAll : List (ClauseKey Key × ℕ) → Type 0
   RemembersAll ps = All Remembers ps

@@ -101,12 +101,13 @@ module _ {Key Id Name : Type 0} where
   module _ (c d : Context Key Id Name) (ks : List (KeyedRule Key)) (e : ParamEnvKey Key) where
     -- What is asked was proved from rules without variables, in this environment, and no goal is left.
     abbrev pub IsProved : List Rule → Asked → Type 0
-    IsProved rs q = Proves (items_of c.meaning) ((c.meaning).param_env e) (d.store).universe (held_of ks rs) rs [] c.store q d.store
+    IsProved rs q = Proves (items_of c.meaning) ((c.meaning).param_env e) (d.store).universe (held_of ks rs) rs []
+        c.store q d.store
 
     -- A goal was proved so by a rule.
     abbrev pub IsProvedBy : List Rule → Rule → ClauseKey Key → Type 0
-    IsProvedBy rs r g = ProvesBy (items_of c.meaning) ((c.meaning).param_env e) (d.store).universe (held_of ks rs) rs [] c.store
-        d.store r (goal_tree c g)
+    IsProvedBy rs r g = ProvesBy (items_of c.meaning) ((c.meaning).param_env e) (d.store).universe (held_of ks rs) rs []
+        c.store d.store r (goal_tree c g)
 
     -- A solver said yes to a goal, and what is recorded stays first-order.
     pub record SaysYes (g : ClauseKey Key) (u : ℕ) (rs : List Rule) : Type 0 where
@@ -147,7 +148,8 @@ module _ {Key Id Name : Type 0} where
         All (λ g. IsFirstOrderClause (goal_tree c g)) gs → SaysYesToAll gs u rs) ×
         ((rs : List Rule) → AllZip (IsRuleOf c) ks rs → IsProved rs (all (map (goal_tree c) gs)))
     TellsAll gs (Refuted named) = ((u : ℕ) (rs : List Rule) → IsExact u c ks rs →
-        All (λ g. IsFirstOrderClause (goal_tree c g)) gs → Did u (held_of ks rs) rs c.store (goals (map (goal_tree c) gs)) no) ×
+        All (λ g. IsFirstOrderClause (goal_tree c g)) gs →
+        Did u (held_of ks rs) rs c.store (goals (map (goal_tree c) gs)) no) ×
         IfSome named (KnowsBlame d ks)
     TellsAll gs (Untold why) = Unit {0}
 
@@ -158,6 +160,7 @@ module _ {Key Id Name : Type 0} where
         ((rs : List Rule) (r : Rule) → AllZip (IsRuleOf c) ks rs → IsRuleOf c k r → Contains rs r →
         IsProvedBy rs r g)
     TellsRule k g (Refuted named) = ((u : ℕ) (rs : List Rule) (r : Rule) → IsExact u c ks rs → IsFirstOrderRule c k r →
-        Contains rs r → IsFirstOrderClause (goal_tree c g) → Did u (held_of ks rs) rs c.store (rule r (goal_tree c g)) no) ×
+        Contains rs r → IsFirstOrderClause (goal_tree c g) →
+        Did u (held_of ks rs) rs c.store (rule r (goal_tree c g)) no) ×
         IfSome named (KnowsBlame d ks)
     TellsRule k g (Untold why) = Unit {0}

@@ -148,9 +148,8 @@ pub fn try_rule<C: KeepsRecord>(
         return Ok(Candidate::Unclear);
     };
     match rule.kind {
-        RuleKind::Plain | RuleKind::Held => {
-            try_opened(ctx, param_env, goal, given, others, span)
-        }
+        RuleKind::Plain => try_opened(ctx, param_env, goal, given, others, span),
+        RuleKind::Held => try_opened(ctx, param_env, goal, given, others, span),
         RuleKind::GivesWay => match others.split_first() {
             None => Ok(Candidate::Unclear),
             Some((clause, asks)) => try_giving_way(

@@ -73,7 +73,9 @@ fn fit_traits<C: InferCtxtLike>(
 {
     match compare(ctx.cx(), had, clause) {
         Bodies::OfTrait(had, clause) => fit(ctx, param_env, had, clause, span),
-        Bodies::OfItem(..) | Bodies::OfTwo | Bodies::Unclear => Ok(Fitting::Left),
+        Bodies::OfItem(_, _) => Ok(Fitting::Left),
+        Bodies::OfTwo => Ok(Fitting::Left),
+        Bodies::Unclear => Ok(Fitting::Left),
     }
 }
 
@@ -156,7 +158,8 @@ pub(crate) fn standing_of<C: KeepsRecord>(
     let mut standing = Standing::First;
     for rule in rules {
         match rule.kind {
-            RuleKind::Plain | RuleKind::GivesWay => {}
+            RuleKind::Plain => {}
+            RuleKind::GivesWay => {}
             RuleKind::Held => match beside(ctx, param_env, *rule, clause, span)? {
                 Standing::First => {}
                 Standing::GivesWay => return Ok(Standing::GivesWay),

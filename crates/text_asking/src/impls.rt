@@ -46,7 +46,7 @@ fn rule_said<I: Interner>(cx: &mut I, terms: &Ready<I>, place: usize) -> Option<
     ensures sure { IfSome result (KnowsMade (I.meaning cx.new)) }
 {
     let said = terms.impls.get(place)?;
-    rule_at(cx, terms, said, said)
+    rule_at(cx, terms, said)
 }
 
 // What a question asks about two impls, each by the place of its first rule, of which so many stand before it.

@@ -50,9 +50,22 @@ fn goal_of<I: Interner>(cx: &mut I, terms: &Ready<I>, number: usize) -> Option<C
     build_clause(cx, terms.ids, terms.names, terms.parts, terms.built, clause)
 }
 
-// The first rule of an impl of a program; or that of what it says that a type of its trait is, which gives way to what
-// the first gives.
-pub(super) fn rule_at<I: Interner>(
+// The first rule of an impl of a program.
+pub(super) fn rule_at<I: Interner>(cx: &mut I, terms: &Ready<I>, said: &Impl) -> Option<RuleOf<I>>
+    requires { AllReady (I.meaning cx.old) terms.now }
+    ensures grown { Extends (I.meaning cx.old) (I.meaning cx.new) }
+    ensures sure { IfSome result (KnowsMade (I.meaning cx.new)) }
+{
+    let variables = variables_at(&*cx, terms.parts, terms.built, said.variables)?;
+    let clauses = clauses_of(cx, terms, said.clauses)?;
+    match rule_of(cx, &variables, &clauses) {
+        Ok(rule) => Some(rule),
+        Err(_) => None,
+    }
+}
+
+// The rule of what an impl says that a type of its trait is: it gives way to what the first one gives.
+fn type_rule_at<I: Interner>(
     cx: &mut I,
     terms: &Ready<I>,
     said: &Impl,
@@ -63,18 +76,30 @@ pub(super) fn rule_at<I: Interner>(
     ensures sure { IfSome result (KnowsMade (I.meaning cx.new)) }
 {
     let variables = variables_at(&*cx, terms.parts, terms.built, said.variables)?;
-    let clauses = clauses_of(cx, terms, said.clauses)?;
-    if said.clauses.first == first.clauses.first {
-        return match rule_of(cx, &variables, &clauses) {
-            Ok(rule) => Some(rule),
-            Err(_) => None,
-        };
-    }
     let implemented = goal_of(cx, terms, first.clauses.first)?;
+    let clauses = clauses_of(cx, terms, said.clauses)?;
     let (given, asks) = clauses.split_first()?;
     match rule_of_type(cx, &variables, implemented, *given, asks) {
         Ok(rule) => Some(rule),
         Err(_) => None,
+    }
+}
+
+// A rule of an impl, by the first one of it.
+fn rule_beside<I: Interner>(
+    cx: &mut I,
+    terms: &Ready<I>,
+    said: &Impl,
+    first: &Impl,
+) -> Option<RuleOf<I>>
+    requires { AllReady (I.meaning cx.old) terms.now }
+    ensures grown { Extends (I.meaning cx.old) (I.meaning cx.new) }
+    ensures sure { IfSome result (KnowsMade (I.meaning cx.new)) }
+{
+    if said.clauses.first == first.clauses.first {
+        rule_at(cx, terms, said)
+    } else {
+        type_rule_at(cx, terms, said, first)
     }
 }
 
@@ -120,7 +145,7 @@ pub(super) fn rules_of<I: Interner>(
         if said.open && !open {
             continue;
         }
-        let next = rule_at(cx, terms, said, &first)?;
+        let next = rule_beside(cx, terms, said, &first)?;
         if made.push(next).is_err() {
             return None;
         }

@@ -29,8 +29,8 @@ module _ {Key Id Name : Type 0} {m n : Meaning Key Id Name} (e : Extends m n) wh
 
   -- A known rule stays what it is.
   pub rule_stays : (r : KeyedRule Key) → KnowsMade m r → rule_tree n r ≡ rule_tree m r
-  rule_stays r h = under_stays (m.bound_vars r.bound_vars) (n.bound_vars r.bound_vars) (m.clauses r.value)
-      (n.clauses r.value) (e.bound_vars r.bound_vars) (e.clauses r.value) h
+  rule_stays r h = under_stays (m.bound_vars (r.clauses).bound_vars) (n.bound_vars (r.clauses).bound_vars) (m.clauses (r.clauses).value)
+      (n.clauses (r.clauses).value) (e.bound_vars (r.clauses).bound_vars) (e.clauses (r.clauses).value) h
 
   pub rule_later : (r : KeyedRule Key) → KnowsMade m r → KnowsMade n r
   rule_later r h = knows_as (rule_tree m r) (rule_tree n r) (rule_stays r h) h
@@ -47,12 +47,12 @@ module _ {Key Id Name : Type 0} {m n : Meaning Key Id Name} (e : Extends m n) wh
 -- A rule of variables that were made before its clauses.
 pub made_rule : {Key Id Name : Type 0} (m p n : Meaning Key Id Name) → Extends m p → Extends p n →
     (r : KeyedRule Key) (vs : List (BoundVariableKind Name)) (ks : List (ClauseKey Key)) →
-    p.bound_vars r.bound_vars ≡ Some (bound_kinds m vs) → n.clauses r.value ≡ list_tree p.clause ks →
-    IsTrue (known (n.clauses r.value)) → All (KnowsClause m) ks → MakesRule m n vs ks r
+    p.bound_vars (r.clauses).bound_vars ≡ Some (bound_kinds m vs) → n.clauses (r.clauses).value ≡ list_tree p.clause ks →
+    IsTrue (known (n.clauses (r.clauses).value)) → All (KnowsClause m) ks → MakesRule m n vs ks r
 made_rule m p n e f r vs ks b s h a =
-    let there : IsSome (p.bound_vars r.bound_vars) = subst (λ o. IsSome o) (sym b) refl in
-    let binds : n.bound_vars r.bound_vars ≡ Some (bound_kinds m vs) = f.bound_vars r.bound_vars there ∙ b in
-    let clauses : n.clauses r.value ≡ list_tree m.clause ks =
+    let there : IsSome (p.bound_vars (r.clauses).bound_vars) = subst (λ o. IsSome o) (sym b) refl in
+    let binds : n.bound_vars (r.clauses).bound_vars ≡ Some (bound_kinds m vs) = f.bound_vars (r.clauses).bound_vars there ∙ b in
+    let clauses : n.clauses (r.clauses).value ≡ list_tree m.clause ks =
     s ∙ stays_list m.clause p.clause ks (λ k i. e.clause k i) (list_known m.clause ks a) in
     let is : rule_tree n r ≡ bind (bound_kinds m vs) (list_tree m.clause ks) = ap₂ under binds clauses in
     let sure : IsTrue (known (list_tree m.clause ks)) = subst (λ t. IsTrue (known t)) clauses h in

@@ -14,7 +14,7 @@ use Rattle.relation_proving.specs.declared.opening.KeyedRule.{KeyedRule}
 use Rattle.relation_proving.specs.Answers.{YesDerives, YesIsBy, YesMakesFollow, YesLosesNone}
 use Rattle.relation_proving.specs.Answers.{NoFollowsNever, NoNamesKnown, LeavesNothing}
 use Rattle.relation_proving.specs.Candidates.{MayAsk, IsFirstOrderClause}
-use Rattle.relation_proving.specs.RuleTerms.{MayUse}
+use Rattle.relation_proving.specs.RuleTerms.{MayUse, held_of}
 use Rattle.relation_proving.specs.Telling.{IsBack, IsExact, KnowsBlame, goal_tree}
 use Rattle.relation_proving.specs.declared.told.Blame.{Blame}
 use Rattle.relation_proving.specs.declared.told.Told.{Told}
@@ -71,8 +71,8 @@ module _ {Key Id Name F : Type 0} (c d e : Context Key Id Name) (b : IsBack c d)
       let same = goal_stays c d (back_goes c d b) g may in
       h rs (subst (λ z. IsExact z.universe d ks rs) (sym st) (exact_back c d b ks (c.store).universe rs uses x))
       (subst IsFirstOrderClause (sym same) f) s (subst (λ z. IsErasedSolution z s) (sym st) sol)
-      (subst (λ z. Follows z.universe [] rs (one (apply s (goal_tree d g)))) (sym st)
-      (subst (λ t. Follows (c.store).universe [] rs (one (apply s t))) (sym same) fol))
+      (subst (λ z. Follows z.universe (held_of ks rs) rs (one (apply s (goal_tree d g)))) (sym st)
+      (subst (λ t. Follows (c.store).universe (held_of ks rs) rs (one (apply s t))) (sym same) fol))
   none_on ks g uses may (Ok (Yes i)) h = tt
   none_on ks g uses may (Ok (Maybe why)) h = tt
   none_on ks g uses may (Err f) h = tt
@@ -91,7 +91,7 @@ module _ {Key Id Name : Type 0} (c d : Context Key Id Name) (b : IsBack c d) whe
   meeting_on ks k l uses left right Meet h = λ rs p q x.
       let st = (b.same).store in
       let on = back_goes c d b in
-      subst (λ z. DoMeet z.universe rs p q) st (h rs p q (record {
+      subst (λ z. DoMeet z.universe (held_of ks rs) rs p q) st (h rs p q (record {
         rules = subst (λ z. IsExact z.universe d ks rs) (sym st) (exact_back c d b ks (c.store).universe rs uses x.rules);
         left_rule = rule_first_order c d on k p left x.left_rule;
         right_rule = rule_first_order c d on l q right x.right_rule;

@@ -79,10 +79,10 @@ closed_under (Some vs) t n h = h
 
 -- A known rule without variables serves of which each clause may stand in the context.
 pub serves : {Key Id Name : Type 0} (c : Context Key Id Name) (r : KeyedRule Key)
-    (ks : List (ClauseKey Key)) → KnowsRule c r → (c.meaning).clauses r.value ≡ list_tree (c.meaning).clause ks →
-    All (FitsUnder c r.bound_vars) ks → Leaves IsValueLeaf ((c.meaning).clauses r.value) → MayServe c r
+    (ks : List (ClauseKey Key)) → KnowsRule c r → (c.meaning).clauses (r.clauses).value ≡ list_tree (c.meaning).clause ks →
+    All (FitsUnder c (r.clauses).bound_vars) ks → Leaves IsValueLeaf ((c.meaning).clauses (r.clauses).value) → MayServe c r
 serves c r ks n s h v =
-    let o = (c.meaning).bound_vars r.bound_vars in
-    let t = (c.meaning).clauses r.value in
+    let o = (c.meaning).bound_vars (r.clauses).bound_vars in
+    let t = (c.meaning).clauses (r.clauses).value in
     let all = all_related (c.meaning).clause c.store o t ks s n h in
     record { may = record { is_known = n; taken = all.1; is_in = all.0 }; closed = closed_under o t n v }

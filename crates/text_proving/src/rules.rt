@@ -3,7 +3,7 @@ ghost use Rattle.std.specs.Prelude.{◌≡◌, IfOk, ◌∷◌, map};
 ghost use Rattle.std.specs.List.{All};
 ghost use Rattle.relation_terms.specs.Meaning.{Extends};
 ghost use Rattle.relation_proving.specs.RuleTerms.{rule_tree};
-ghost use Rattle.relation_proving.specs.declared.opening.RuleKind.TheVariants.{Plain, GivesWay};
+ghost use Rattle.relation_proving.specs.declared.opening.RuleKind.TheVariants.{Plain, Held, GivesWay};
 ghost use Rattle.text_proving.specs.Made.{KnowsClause, KnowsMade, MakesRule, IsHeld, held, HoldsClosure};
 
 use crate::implied::closure_of;
@@ -81,6 +81,7 @@ fn rule_held<I: Interner>(cx: &mut I, clause: Clause<I>) -> Result<RuleOf<I>, Ou
     requires { KnowsClause (I.meaning cx.old) clause }
     ensures grown { Extends (I.meaning cx.old) (I.meaning cx.new) }
     ensures held { IfOk result (IsHeld (I.meaning cx.old) (I.meaning cx.new) clause) }
+    ensures kind { IfOk result (λ rule. rule.kind ≡ Held) }
 {
     let none = Vec::new(cx.alloc());
     let mut list = Vec::new(cx.alloc());
@@ -93,6 +94,7 @@ fn rules_each<I: Interner>(cx: &mut I, clauses: &[Clause<I>]) -> Result<Vec<Rule
     requires { All (KnowsClause (I.meaning cx.old)) clauses.now }
     ensures grown { Extends (I.meaning cx.old) (I.meaning cx.new) }
     ensures known { IfOk result (λ rules. All (KnowsMade (I.meaning cx.new)) rules.items) }
+    ensures kinds { IfOk result (λ rules. All (λ rule. rule.kind ≡ Held) rules.items) }
     ensures held { IfOk result (λ rules.
         map (rule_tree (I.meaning cx.new)) rules.items ≡ map (held (I.meaning cx.old)) clauses.now) }
 {
@@ -117,6 +119,7 @@ pub fn rules_held<I: Interner>(
     requires { All (KnowsClause (I.meaning cx.old)) clauses.now }
     ensures grown { Extends (I.meaning cx.old) (I.meaning cx.new) }
     ensures known { IfOk result (λ rules. All (KnowsMade (I.meaning cx.new)) rules.items) }
+    ensures kinds { IfOk result (λ rules. All (λ rule. rule.kind ≡ Held) rules.items) }
     ensures held { IfOk result (λ rules.
         HoldsClosure (I.meaning cx.old) (I.meaning cx.new) clauses.now rules.items) }
 {
