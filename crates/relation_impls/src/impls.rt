@@ -1,5 +1,5 @@
 //! Whether two impls overlap, with what each asks for.
-ghost use Rattle.std.specs.Prelude.{◌≢◌, All, IfOk};
+ghost use Rattle.std.specs.Prelude.{◌≡◌, ◌≢◌, false, All, IfOk};
 ghost use Rattle.relation_terms.specs.Meaning.{Extends};
 ghost use Rattle.relation_semantics.specs.Steps.{IsLater};
 ghost use Rattle.kept_records.specs.Records.{SameRecord};
@@ -77,10 +77,19 @@ fn told_of<C: KeepsRecord>(
     ensures apart { IfOk result (TellsApart (C.state ctx.old) rules.now left right) }
     ensures meets { IfOk result (TellsMeeting (C.state ctx.old) rules.now left right) }
 {
-    match right.kind {
-        RuleKind::Plain => told_of_standing(ctx, rules, param_env, left, right, depth, span),
-        RuleKind::Held => told_of_standing(ctx, rules, param_env, left, right, depth, span),
-        RuleKind::GivesWay => Ok(Impls::Unclear(Why::Ambiguous)),
+    if gives_way(right.kind) {
+        return Ok(Impls::Unclear(Why::Ambiguous));
+    }
+    told_of_standing(ctx, rules, param_env, left, right, depth, span)
+}
+
+// Whether a rule of this kind gives way to what the environment has.
+fn gives_way(kind: RuleKind) -> bool
+    ensures { result ≡ false → kind ≢ GivesWay }
+{
+    match kind {
+        RuleKind::GivesWay => true,
+        RuleKind::Plain | RuleKind::Held => false,
     }
 }
 
