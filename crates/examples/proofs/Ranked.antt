@@ -4,7 +4,6 @@ use Rattle.std.specs.Prelude.{Contains, IfOk, Result, Ok, Err}
 use Rattle.std.specs.Cmp.Derive.{both_true}
 use Rattle.std.proofs.lemmas.List.Elements.{All-nil, All-cons}
 use Rattle.term_enums.specs.declared.PredicatePolarity.TheVariants.{Positive}
-use Rattle.relation_terms.specs.declared.terms.binder.Binder.{Binder}
 use Rattle.relation_terms.specs.declared.terms.binder.BoundVariableKind.{BoundVariableKind}
 use Rattle.relation_terms.specs.declared.terms.binder.BoundVariableKind.TheVariants.{Ty as TyBound}
 use Rattle.relation_terms.specs.declared.terms.generic_arg.GenericArgKind.{GenericArgKind}
@@ -12,7 +11,6 @@ use Rattle.relation_terms.specs.declared.terms.generic_arg.GenericArgKind.TheVar
 use Rattle.relation_terms.specs.declared.terms.keys.ArgsKey.{ArgsKey}
 use Rattle.relation_terms.specs.declared.terms.keys.BoundVarsKey.{BoundVarsKey}
 use Rattle.relation_terms.specs.declared.terms.keys.ClauseKey.{ClauseKey}
-use Rattle.relation_terms.specs.declared.terms.keys.ClausesKey.{ClausesKey}
 use Rattle.relation_terms.specs.declared.terms.keys.TyKey.{TyKey}
 use Rattle.relation_terms.specs.Heads.{bound_kind, type_kind, adt, trait_ref, trait_clause}
 use Rattle.relation_terms.specs.Trees.{Tree, node, bind, nil, cons, known, inst, Leaves, list_tree}
@@ -23,16 +21,20 @@ use Rattle.relation_semantics.specs.Contexts.{Context}
 use Rattle.relation_semantics.specs.FirstOrder.{IsFirstOrder}
 use Rattle.relation_semantics.specs.Relation.{IsValueLeaf}
 use Rattle.relation_solver.specs.Rules.{Rule, given}
-use Rattle.relation_proving.specs.RuleTerms.{IsRule, rule_tree}
+use Rattle.relation_proving.specs.declared.opening.KeyedRule.{KeyedRule}
+use Rattle.relation_proving.specs.declared.opening.RuleKind.{RuleKind}
+use Rattle.relation_proving.specs.declared.opening.RuleKind.TheVariants.{Plain, Held}
+use Rattle.relation_proving.specs.RuleTerms.{GivesWayTo, IsRule, rule_tree}
 use Rattle.relation_proving.specs.Candidates.{AreVariablesFor, IsFirstOrderClause, IsFirstOrderRule}
 use Rattle.examples.specs.Ranked.{ranked_clause, vec_over, bound_param, impl_for_vecs}
 
 -- A rule stays known while the interner grows.
-pub knows_rule : {Key Id Name : Type 0} {m n : Meaning Key Id Name} → Extends m n → (r : Binder Key (ClausesKey Key)) →
+pub knows_rule : {Key Id Name : Type 0} {m n : Meaning Key Id Name} → Extends m n → (r : KeyedRule Key) →
     IsTrue (known (rule_tree m r)) → IsTrue (known (rule_tree n r))
 knows_rule {m = m} {n = n} e r h = subst (λ t. IsTrue (known t))
-    (sym (under_stays (m.bound_vars r.bound_vars) (n.bound_vars r.bound_vars) (m.clauses r.value) (n.clauses r.value)
-    (e.bound_vars r.bound_vars) (e.clauses r.value) h)) h
+    (sym (under_stays (m.bound_vars (r.clauses).bound_vars) (n.bound_vars (r.clauses).bound_vars)
+    (m.clauses (r.clauses).value) (n.clauses (r.clauses).value) (e.bound_vars (r.clauses).bound_vars)
+    (e.clauses (r.clauses).value) h)) h
 
 -- A type over one argument, as it was made of a list of that.
 pub vec_result : {Key Id Name E : Type 0} (m n o : Meaning Key Id Name) → Extends m n → (d : Id) (t : TyKey Key)
@@ -80,11 +82,12 @@ module _ {Key Id Name : Type 0} (m n : Meaning Key Id Name) (e : Extends m n) (c
 
 module _ {Key Id Name : Type 0} (m n o : Meaning Key Id Name) (e : Extends m n) (f : Extends n o)
     (cs : List (ClauseKey Key)) (h : IsTrue (known (list_tree m.clause cs))) where
-  pub rule_made : (r : Binder Key (ClausesKey Key)) (bs : List (BoundVariableKind Name)) →
-      n.bound_vars r.bound_vars ≡ Some (bound_kinds m bs) → o.clauses r.value ≡ list_tree n.clause cs →
+  pub rule_made : (r : KeyedRule Key) (bs : List (BoundVariableKind Name)) →
+      n.bound_vars (r.clauses).bound_vars ≡ Some (bound_kinds m bs) →
+      o.clauses (r.clauses).value ≡ list_tree n.clause cs →
       rule_tree o r ≡ bind (bound_kinds m bs) (list_tree m.clause cs)
   rule_made r bs binds made =
-      ap₂ under (f.bound_vars r.bound_vars (subst IsSome (sym binds) refl) ∙ binds) (made ∙ clauses_stay m n e cs h)
+      ap₂ under (f.bound_vars (r.clauses).bound_vars (subst IsSome (sym binds) refl) ∙ binds) (made ∙ clauses_stay m n e cs h)
 
 -- The rule for vectors, by its parts as they were made one after another.
 module _ {Key Id Name : Type 0} (m n o p q : Meaning Key Id Name) (e : Extends m n) (f : Extends n o) (g : Extends o p)
@@ -114,18 +117,21 @@ module _ {Key Id Name : Type 0} (m n o p q : Meaning Key Id Name) (e : Extends m
   name_stays = h.name s ∙ (g.name s ∙ (f.name s ∙ e.name s))
 
   impl_is : (t : Tree) (bs : List (BoundVariableKind Name)) → bs ≡ TyBound s ∷ [] →
-      t ≡ bind (bound_kinds q bs) (list_tree q.clause cs) → IsRule t (impl_for_vecs (m.id v) (m.id d) (m.name s))
+      t ≡ bind (bound_kinds q bs) (list_tree q.clause cs) →
+      IsRule Plain t (impl_for_vecs (m.id v) (m.id d) (m.name s))
   impl_is t bs one is = record {
     clauses = is ∙ ap₂ bind (ap (bound_kinds q) one ∙ ap (λ i. bound_kind type_kind i ∷ []) name_stays) both_listed;
-    shadowed_by_none = refl;
+    gives_way_to = refl;
   }
 
-  pub impl_result : {E : Type 0} (w : Meaning Key Id Name) (r : Result (Binder Key (ClausesKey Key)) E)
+  pub impl_result : {E : Type 0} (w : Meaning Key Id Name) (r : Result (KeyedRule Key) E)
       (bs : List (BoundVariableKind Name)) → bs ≡ TyBound s ∷ [] →
       IfOk r (λ k. rule_tree w k ≡ bind (bound_kinds q bs) (list_tree q.clause cs)) →
-      IfOk r (λ k. IsRule (rule_tree w k) (impl_for_vecs (m.id v) (m.id d) (m.name s)))
-  impl_result w (Ok k) bs one is = impl_is (rule_tree w k) bs one is
-  impl_result w (Err x) bs one is = tt
+      IfOk r (λ k. k.kind ≡ Plain) →
+      IfOk r (λ k. IsRule k.kind (rule_tree w k) (impl_for_vecs (m.id v) (m.id d) (m.name s)))
+  impl_result w (Ok k) bs one is kind = subst (λ z. IsRule z (rule_tree w k) (impl_for_vecs (m.id v) (m.id d)
+      (m.name s))) (sym kind) (impl_is (rule_tree w k) bs one is)
+  impl_result w (Err x) bs one is kind = tt
 
 -- A clause alone as a rule.
 module _ {Key Id Name : Type 0} (m : Meaning Key Id Name) (k : ClauseKey Key) (cs : List (ClauseKey Key))
@@ -133,36 +139,36 @@ module _ {Key Id Name : Type 0} (m : Meaning Key Id Name) (k : ClauseKey Key) (c
   pub alone_known : IsTrue (known (m.clause k)) → IsTrue (known (list_tree m.clause cs))
   alone_known h = subst (λ x. IsTrue (known (list_tree m.clause x))) (sym one) (both_true h refl)
 
-  pub given_result : {E : Type 0} (n : Meaning Key Id Name) (r : Result (Binder Key (ClausesKey Key)) E)
+  pub given_result : {E : Type 0} (n : Meaning Key Id Name) (r : Result (KeyedRule Key) E)
       (bs : List (BoundVariableKind Name)) → bs ≡ [] →
       IfOk r (λ x. rule_tree n x ≡ bind (bound_kinds m bs) (list_tree m.clause cs)) →
-      IfOk r (λ x. IsRule (rule_tree n x) (given (m.clause k)))
-  given_result n (Ok x) bs none is = record {
+      IfOk r (λ x. x.kind ≡ Held) → IfOk r (λ x. IsRule x.kind (rule_tree n x) (given (m.clause k)))
+  given_result n (Ok x) bs none is kind = record {
     clauses = is ∙ ap₂ bind (ap (bound_kinds m) none) (ap (list_tree m.clause) one);
-    shadowed_by_none = refl;
+    gives_way_to = subst (λ z. GivesWayTo {T = Tree} z []) (sym kind) refl;
   }
-  given_result n (Err x) bs none is = tt
+  given_result n (Err x) bs none is kind = tt
 
 -- These rules are known.
-pub impl_known : (t : Tree) (v d n : ℕ) → IsRule t (impl_for_vecs v d n) → IsTrue (known t)
+pub impl_known : {kind : RuleKind} (t : Tree) (v d n : ℕ) → IsRule kind t (impl_for_vecs v d n) → IsTrue (known t)
 impl_known t v d n is = subst (λ x. IsTrue (known x)) (sym is.clauses) refl
 
-pub given_known : (t g : Tree) → IsRule t (given g) → IsTrue (known g) → IsTrue (known t)
+pub given_known : {kind : RuleKind} (t g : Tree) → IsRule kind t (given g) → IsTrue (known g) → IsTrue (known t)
 given_known t g is h = subst (λ x. IsTrue (known x)) (sym is.clauses) (both_true h refl)
 
 pub given_known_result : {Key Id Name E : Type 0} (m n : Meaning Key Id Name) (k : ClauseKey Key)
-    (r : Result (Binder Key (ClausesKey Key)) E) → IsTrue (known (m.clause k)) →
-    IfOk r (λ x. IsRule (rule_tree n x) (given (m.clause k))) → IfOk r (λ x. IsTrue (known (rule_tree n x)))
+    (r : Result (KeyedRule Key) E) → IsTrue (known (m.clause k)) →
+    IfOk r (λ x. IsRule x.kind (rule_tree n x) (given (m.clause k))) → IfOk r (λ x. IsTrue (known (rule_tree n x)))
 given_known_result m n k (Ok x) h is = given_known (rule_tree n x) (m.clause k) is h
 given_known_result m n k (Err x) h is = tt
 
 -- And so is what is asked for of two.
 pub both_known : {Key Id Name : Type 0} (m n : Meaning Key Id Name) → Extends m n →
-    (first second : Binder Key (ClausesKey Key)) (rs : List (Binder Key (ClausesKey Key))) →
+    (first second : KeyedRule Key) (rs : List (KeyedRule Key)) →
     rs ≡ first ∷ second ∷ [] → IsTrue (known (rule_tree m first)) → IsTrue (known (rule_tree m second)) →
     All (λ r. IsTrue (known (rule_tree n r))) rs
 both_known {Key} m n e first second rs two f s =
-    let here = λ (r : Binder Key (ClausesKey Key)). IsTrue (known (rule_tree n r)) in
+    let here = λ (r : KeyedRule Key). IsTrue (known (rule_tree n r)) in
     subst (All here) (sym two) (All-cons here first (second ∷ []) (knows_rule e first f)
     (All-cons here second [] (knows_rule e second s) (All-nil here)))
 
@@ -179,8 +185,8 @@ impl_clauses v d n (x ∷ []) h =
     (All-nil IsFirstOrderClause))
 impl_clauses v d n (x ∷ y ∷ ys) h = absurd h.1
 
-pub impl_first_order : {Key Id Name : Type 0} (c : Context Key Id Name) (k : Binder Key (ClausesKey Key)) (v d n : ℕ) →
-    IsRule (rule_tree c.meaning k) (impl_for_vecs v d n) → IsFirstOrderRule c k (impl_for_vecs v d n)
+pub impl_first_order : {Key Id Name : Type 0} (c : Context Key Id Name) (k : KeyedRule Key) (v d n : ℕ) →
+    IsRule k.kind (rule_tree c.meaning k) (impl_for_vecs v d n) → IsFirstOrderRule c k (impl_for_vecs v d n)
 impl_first_order c k v d n is = record {
   rule = record {
     closed = subst (Leaves IsValueLeaf) (sym is.clauses) ((((tt, tt), tt), tt), (((tt, tt), tt), tt));
@@ -191,11 +197,11 @@ impl_first_order c k v d n is = record {
 
 -- The same of three; and the first two are of the three.
 pub three_known : {Key Id Name : Type 0} (m n : Meaning Key Id Name) → Extends m n →
-    (first second third : Binder Key (ClausesKey Key)) (rs : List (Binder Key (ClausesKey Key))) →
+    (first second third : KeyedRule Key) (rs : List (KeyedRule Key)) →
     rs ≡ first ∷ second ∷ third ∷ [] → IsTrue (known (rule_tree m first)) → IsTrue (known (rule_tree m second)) →
     IsTrue (known (rule_tree m third)) → All (λ r. IsTrue (known (rule_tree n r))) rs
 three_known {Key} m n e first second third rs three f s t =
-    let here = λ (r : Binder Key (ClausesKey Key)). IsTrue (known (rule_tree n r)) in
+    let here = λ (r : KeyedRule Key). IsTrue (known (rule_tree n r)) in
     subst (All here) (sym three) (All-cons here first (second ∷ third ∷ []) (knows_rule e first f)
     (both_known m n e second third (second ∷ third ∷ []) refl s t))
 

@@ -17,7 +17,7 @@ use reference_interner::{
 };
 use relation_folds::error::{RelateFault, RelateResult};
 use relation_proving::checking::{goal_may_be_asked, rules_may_be_used};
-use relation_proving::opening::RuleOf;
+use relation_proving::opening::{KeyedRule, RuleKind, RuleOf};
 use relation_proving::proving::{Told, ToldOf, Why, prove};
 use relation_reference::context::RefCtxt;
 use relation_semantics::infer_ctxt::{InferCtxtLike, TypingMode};
@@ -139,15 +139,18 @@ fn make_rule<I: Interner>(
     cx: &mut I,
     bound: &[BoundVariable<I>],
     clauses: &[Clause<I>],
+    kind: RuleKind,
 ) -> Result<RuleOf<I>, OutOfMemory>
     requires { IsTrue (known (list_tree (I.meaning cx.old).clause clauses.now)) }
     ensures grown { Extends (I.meaning cx.old) (I.meaning cx.new) }
     ensures made { let m = I.meaning cx.old in IfOk result (λ r. rule_tree (I.meaning cx.new) r ≡
         bind (bound_kinds m bound.now) (list_tree m.clause clauses.now)) }
+    ensures kind { IfOk result (λ r. r.kind ≡ kind) }
 {
     let bound_vars = cx.mk_bound_vars(bound)?;
     let value = cx.mk_clauses(clauses)?;
-    Ok(Binder { value, bound_vars })
+    let clauses = Binder { value, bound_vars };
+    Ok(KeyedRule { clauses, kind })
 }
 
 // `impl<T> Ranked for Vec<T> where T: Ranked`.
@@ -159,7 +162,7 @@ pub(crate) fn make_impl<I: Interner>(
 ) -> Result<RuleOf<I>, OutOfMemory>
     ensures grown { Extends (I.meaning cx.old) (I.meaning cx.new) }
     ensures is { let m = I.meaning cx.old in IfOk result (λ r.
-        IsRule (rule_tree (I.meaning cx.new) r) (impl_for_vecs (m.id vec) (m.id ranked) (m.name name))) }
+        IsRule r.kind (rule_tree (I.meaning cx.new) r) (impl_for_vecs (m.id vec) (m.id ranked) (m.name name))) }
 {
     let var = BoundVar(0);
     let param = cx.mk_ty(TyKind::Bound(DebruijnIndex(1), BoundTy { var, name }))?;
@@ -169,7 +172,7 @@ pub(crate) fn make_impl<I: Interner>(
     let clauses = two(cx.alloc(), gives, asks)?;
     let mut bound = Vec::new(cx.alloc());
     bound.push(BoundVariableKind::Ty(name))?;
-    make_rule(cx, &bound, &clauses)
+    make_rule(cx, &bound, &clauses, RuleKind::Plain)
 }
 
 // A clause of an environment as a rule.
@@ -180,12 +183,12 @@ pub(crate) fn make_given<I: Interner>(
     requires { IsTrue (known ((I.meaning cx.old).clause clause)) }
     ensures grown { Extends (I.meaning cx.old) (I.meaning cx.new) }
     ensures is { let m = I.meaning cx.old in
-        IfOk result (λ r. IsRule (rule_tree (I.meaning cx.new) r) (given (m.clause clause))) }
+        IfOk result (λ r. IsRule r.kind (rule_tree (I.meaning cx.new) r) (given (m.clause clause))) }
 {
     let bound = Vec::new(cx.alloc());
     let mut clauses = Vec::new(cx.alloc());
     clauses.push(clause)?;
-    make_rule(cx, &bound, &clauses)
+    make_rule(cx, &bound, &clauses, RuleKind::Held)
 }
 
 /// What a question is of.

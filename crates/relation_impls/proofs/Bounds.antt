@@ -3,9 +3,7 @@ use Rattle.std.proofs.Common.{◌≡◌, ℕ, ◌+◌, ◌<◌, ◌≤◌, List,
 use Rattle.std.specs.Prelude.{IfOk, Result, Ok, Err}
 use Rattle.std.proofs.lemmas.List.{take_all}
 use Rattle.std.proofs.lemmas.List.Elements.{All-nil, All-get_or, All-more}
-use Rattle.relation_terms.specs.declared.terms.binder.Binder.{Binder}
 use Rattle.relation_terms.specs.declared.terms.keys.ClauseKey.{ClauseKey}
-use Rattle.relation_terms.specs.declared.terms.keys.ClausesKey.{ClausesKey}
 use Rattle.relation_terms.specs.Trees.{Assign, apply}
 use Rattle.relation_semantics.specs.Contexts.{Context}
 use Rattle.relation_semantics.specs.FirstOrder.{IsErasedSolution}
@@ -13,9 +11,10 @@ use Rattle.relation_semantics.specs.Steps.{AgreeErased, HasErasedExtension}
 use Rattle.relation_semantics.proofs.Exactness.{erased_through}
 use Rattle.kept_records.specs.Records.{SameRecord}
 use Rattle.relation_solver.specs.Rules.{Rule, one, Follows}
+use Rattle.relation_proving.specs.declared.opening.KeyedRule.{KeyedRule}
 use Rattle.relation_proving.specs.Answers.{YesMakesFollow, YesLosesNone, NoFollowsNever, YesStaysFirstOrder}
 use Rattle.relation_proving.specs.Candidates.{MayAsk, IsFirstOrderAt, IsFirstOrderClause}
-use Rattle.relation_proving.specs.RuleTerms.{MayUse}
+use Rattle.relation_proving.specs.RuleTerms.{MayUse, held_of}
 use Rattle.relation_proving.specs.Telling.{GoesOn, IsExact, goal_tree}
 use Rattle.relation_proving.specs.declared.told.Why.{Why}
 use Rattle.relation_proving.specs.declared.told.Why.TheVariants.{Ambiguous}
@@ -34,13 +33,13 @@ abbrev pub IsNotApart : Impls → Type 0
 IsNotApart (Apart why) = ⊥
 IsNotApart told = Unit {0}
 
-module _ {Key Id Name : Type 0} (c : Context Key Id Name) (ks : List (Binder Key (ClausesKey Key)))
+module _ {Key Id Name : Type 0} (c : Context Key Id Name) (ks : List (KeyedRule Key))
     (gs : List (ClauseKey Key)) where
   -- Of the first n: what is recorded goes on; and as long as all were proved, each solution that is left makes these
   -- follow.
   pub record Kept (d : Context Key Id Name) (n : ℕ) (told : Impls) (u : ℕ) (rs : List Rule) : Type 0 where
-    pub goes : GoesOnWith c d gs u rs
-    pub proves : told ≡ Meet → (s : Assign) → IsErasedSolution d.store s → AllFollow c u rs (take n gs) s
+    pub goes : GoesOnWith c d ks gs u rs
+    pub proves : told ≡ Meet → (s : Assign) → IsErasedSolution d.store s → AllFollow c ks u rs (take n gs) s
 
   pub record AskedSoFar (d : Context Key Id Name) (n : ℕ) (told : Impls) : Type 0 where
     pub goes_on : GoesOn c d
@@ -54,7 +53,7 @@ module _ {Key Id Name : Type 0} (c : Context Key Id Name) (ks : List (Binder Key
     none_apart = tt;
     kept = λ u rs x f. record {
       goes = record { store = x.store; keeps = λ s h a. (s, (λ k n m. refl), h); shrinks = λ s h. h };
-      proves = λ e s h. All-nil (λ g. Follows u [] rs (one (apply s (goal_tree c g))));
+      proves = λ e s h. All-nil (λ g. Follows u (held_of ks rs) rs (one (apply s (goal_tree c g))));
     };
   }
 
@@ -82,18 +81,18 @@ module _ {Key Id Name : Type 0} (c : Context Key Id Name) (ks : List (Binder Key
             (All-get_or (λ k. IsFirstOrderClause (goal_tree c k)) gs n g below f))
 
         -- A solution under which all follow goes on to one under which this one does; and with this one one more follows.
-        follows_then : (s : Assign) → AllFollow c u rs gs s → (s' : Assign) → AgreeErased c.store s s' →
-            Follows (d.store).universe [] rs (one (apply s' (goal_tree d g)))
-        follows_then s a s' agree = subst (λ v. Follows v [] rs (one (apply s' (goal_tree d g)))) (sym same_universe)
-            (follows_on u rs c d h.goes_on s s' agree g may
-            (subst (λ k. Follows u [] rs (one (apply s (goal_tree c k)))) (sym is)
-            (All-get_or (λ k. Follows u [] rs (one (apply s (goal_tree c k)))) gs n g below a)))
+        follows_then : (s : Assign) → AllFollow c ks u rs gs s → (s' : Assign) → AgreeErased c.store s s' →
+            Follows (d.store).universe (held_of ks rs) rs (one (apply s' (goal_tree d g)))
+        follows_then s a s' agree = subst (λ v. Follows v (held_of ks rs) rs (one (apply s' (goal_tree d g)))) (sym same_universe)
+            (follows_on u ks rs c d h.goes_on s s' agree g may
+            (subst (λ k. Follows u (held_of ks rs) rs (one (apply s (goal_tree c k)))) (sym is)
+            (All-get_or (λ k. Follows u (held_of ks rs) rs (one (apply s (goal_tree c k)))) gs n g below a)))
 
-        next_follows : (s : Assign) → Follows (d.store).universe [] rs (one (apply s (goal_tree d g))) →
-            AllFollow c u rs (take n gs) s → AllFollow c u rs (take (n + 1) gs) s
-        next_follows s k a = All-more (λ k. Follows u [] rs (one (apply s (goal_tree c k)))) gs n g below a
-            (subst (λ k. Follows u [] rs (one (apply s (goal_tree c k)))) is (followed u rs c d h.goes_on s g may
-            (subst (λ v. Follows v [] rs (one (apply s (goal_tree d g)))) same_universe k)))
+        next_follows : (s : Assign) → Follows (d.store).universe (held_of ks rs) rs (one (apply s (goal_tree d g))) →
+            AllFollow c ks u rs (take n gs) s → AllFollow c ks u rs (take (n + 1) gs) s
+        next_follows s k a = All-more (λ k. Follows u (held_of ks rs) rs (one (apply s (goal_tree c k)))) gs n g below a
+            (subst (λ k. Follows u (held_of ks rs) rs (one (apply s (goal_tree c k)))) is (followed u ks rs c d h.goes_on s g may
+            (subst (λ v. Follows v (held_of ks rs) rs (one (apply s (goal_tree d g)))) same_universe k)))
 
       module _ {F : Type 0} (result : Result (Told Key) F) where
         -- One was proved.
@@ -153,7 +152,7 @@ module _ {Key Id Name : Type 0} (c : Context Key Id Name) (ks : List (Binder Key
       TellsBounds c d ks gs told
   asking_ended d n l Meet h = λ u rs x f s sol.
       let k = h.kept u rs x f in
-      ((k.goes).shrinks s sol, subst (λ z. AllFollow c u rs z s) (take_all n gs l) (k.proves refl s sol))
+      ((k.goes).shrinks s sol, subst (λ z. AllFollow c ks u rs z s) (take_all n gs l) (k.proves refl s sol))
   asking_ended d n l (Unclear why) h = λ u rs x f. (h.kept u rs x f).goes
   asking_ended d n l (Apart why) h = absurd h.none_apart
 
@@ -161,7 +160,7 @@ module _ {Key Id Name : Type 0} (c : Context Key Id Name) (ks : List (Binder Key
   module _ (uses : All (MayUse c) ks) (asked : All (MayAsk c) gs) (d e : Context Key Id Name) (on : GoesOn c d)
       (first : TellsBounds c d ks gs (Unclear Ambiguous)) where
     module _ (u : ℕ) (rs : List Rule) (x : IsExact u c ks rs) (f : All (λ g. IsFirstOrderClause (goal_tree c g)) gs) where
-      abbrev goes : GoesOnWith c d gs u rs
+      abbrev goes : GoesOnWith c d ks gs u rs
       goes = first u rs x f
 
       exact_again : IsExact u d ks rs
@@ -170,8 +169,8 @@ module _ {Key Id Name : Type 0} (c : Context Key Id Name) (ks : List (Binder Key
       first_order_again : All (λ g. IsFirstOrderClause (goal_tree d g)) gs
       first_order_again = goals_first_order c d on gs asked f
 
-      follow_again : (s s' : Assign) → AgreeErased c.store s s' → AllFollow c u rs gs s → AllFollow d u rs gs s'
-      follow_again s s' agree a = all_follow_on u rs c d on s s' agree gs asked a
+      follow_again : (s s' : Assign) → AgreeErased c.store s s' → AllFollow c ks u rs gs s → AllFollow d ks u rs gs s'
+      follow_again s s' agree a = all_follow_on u ks rs c d on s s' agree gs asked a
 
     pub asked_again : (told : Impls) → TellsBounds d e ks gs told → TellsBounds c e ks gs told
     asked_again (Apart ByForm) t = t
@@ -180,7 +179,7 @@ module _ {Key Id Name : Type 0} (c : Context Key Id Name) (ks : List (Binder Key
         t u rs (exact_again u rs x f) (first_order_again u rs x f) p.0 p.2 (follow_again u rs x f s p.0 p.1 a)
     asked_again Meet t = λ u rs x f s sol.
         let p = t u rs (exact_again u rs x f) (first_order_again u rs x f) s sol in
-        ((goes u rs x f).shrinks s p.0, all_followed u rs c d on s gs asked p.1)
+        ((goes u rs x f).shrinks s p.0, all_followed u ks rs c d on s gs asked p.1)
     asked_again (Unclear again) t = λ u rs x f.
         let k = t u rs (exact_again u rs x f) (first_order_again u rs x f) in
         record {

@@ -1,10 +1,11 @@
 //! Whether two impls overlap, with what each asks for.
-ghost use Rattle.std.specs.Prelude.{All, IfOk};
+ghost use Rattle.std.specs.Prelude.{◌≡◌, ◌≢◌, false, All, IfOk};
 ghost use Rattle.relation_terms.specs.Meaning.{Extends};
 ghost use Rattle.relation_semantics.specs.Steps.{IsLater};
 ghost use Rattle.kept_records.specs.Records.{SameRecord};
 ghost use Rattle.relation_proving.specs.Candidates.{MayAsk};
 ghost use Rattle.relation_proving.specs.RuleTerms.{MayUse};
+ghost use Rattle.relation_proving.specs.declared.opening.RuleKind.TheVariants.{GivesWay};
 ghost use Rattle.relation_proving.specs.Telling.{MayProve, GoesOn};
 ghost use Rattle.relation_impls.specs.Answers.{TellsApart, TellsMeeting};
 ghost use Rattle.relation_impls.specs.Telling.{TellsOpened};
@@ -14,7 +15,7 @@ use crate::asking::bounds_hold;
 use kept_records::KeepsRecord;
 use relation_folds::error::RelateResult;
 use relation_proving::candidate::{Candidate, try_rule};
-use relation_proving::opening::{RuleOf, open_rule};
+use relation_proving::opening::{RuleKind, RuleOf, open_rule};
 pub use relation_proving::proving::Why;
 use relation_terms::terms::{Clause, ParamEnv, Span};
 
@@ -76,6 +77,40 @@ fn told_of<C: KeepsRecord>(
     ensures apart { IfOk result (TellsApart (C.state ctx.old) rules.now left right) }
     ensures meets { IfOk result (TellsMeeting (C.state ctx.old) rules.now left right) }
 {
+    if gives_way(right.kind) {
+        return Ok(Impls::Unclear(Why::Ambiguous));
+    }
+    told_of_standing(ctx, rules, param_env, left, right, depth, span)
+}
+
+// Whether a rule of this kind gives way to what the environment has.
+fn gives_way(kind: RuleKind) -> bool
+    ensures { result ≡ false → kind ≢ GivesWay }
+{
+    match kind {
+        RuleKind::GivesWay => true,
+        RuleKind::Plain | RuleKind::Held => false,
+    }
+}
+
+// The same of two, the right one of which doesn't give way.
+fn told_of_standing<C: KeepsRecord>(
+    ctx: &mut C,
+    rules: &[RuleOf<C::Interner>],
+    param_env: ParamEnv<C::Interner>,
+    left: RuleOf<C::Interner>,
+    right: RuleOf<C::Interner>,
+    depth: usize,
+    span: Span<C::Interner>,
+) -> RelateResult<C::Interner, Impls>
+    requires may { MayProve (C.state ctx.old) rules.now param_env }
+    requires left { MayUse (C.state ctx.old) left }
+    requires right { MayUse (C.state ctx.old) right }
+    requires stands { right.kind ≢ GivesWay }
+    ensures goes_on { GoesOn (C.state ctx.old) (C.state ctx.new) }
+    ensures apart { IfOk result (TellsApart (C.state ctx.old) rules.now left right) }
+    ensures meets { IfOk result (TellsMeeting (C.state ctx.old) rules.now left right) }
+{
     let clauses = open_rule(ctx, right)?;
     match clauses.split_first() {
         None => Ok(Impls::Unclear(Why::Ambiguous)),
@@ -104,13 +139,14 @@ fn told_of_opened<C: KeepsRecord>(
     ensures tells { let c = C.state ctx.old in
         IfOk result (TellsOpened c (C.state ctx.new) rules.now left given.now asks.now) }
 {
-    match try_rule(ctx, param_env, left, given, span)? {
+    match try_rule(ctx, rules, param_env, left, given, span)? {
         Candidate::Asks(others) => {
             let mut bounds = others;
             bounds.extend_from_slice(asks)?;
             bounds_hold(ctx, rules, param_env, &bounds, depth, span)
         }
         Candidate::Apart => Ok(Impls::Apart(WhyApart::ByForm)),
+        Candidate::GivesWay => Ok(Impls::Unclear(Why::Ambiguous)),
         Candidate::Unclear => Ok(Impls::Unclear(Why::Ambiguous)),
     }
 }

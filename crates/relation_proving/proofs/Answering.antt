@@ -5,9 +5,7 @@ use Rattle.std.specs.Prelude.{Contains, IfOk, IfSome, Result, Ok, Err}
 use Rattle.std.specs.Global.{Vec}
 use Rattle.std.specs.List.{remove, AllZip}
 use Rattle.std.proofs.lemmas.List.Elements.{All-append, All-take, All-drop, All-get_or}
-use Rattle.relation_terms.specs.declared.terms.binder.Binder.{Binder}
 use Rattle.relation_terms.specs.declared.terms.keys.ClauseKey.{ClauseKey}
-use Rattle.relation_terms.specs.declared.terms.keys.ClausesKey.{ClausesKey}
 use Rattle.relation_terms.specs.declared.terms.keys.ParamEnvKey.{ParamEnvKey}
 use Rattle.relation_terms.specs.Trees.{Tree, inst}
 use Rattle.relation_semantics.specs.Contexts.{Context, KnowsEnv}
@@ -16,20 +14,22 @@ use Rattle.relation_semantics.proofs.Answering.{items_stay}
 use Rattle.relation_semantics.specs.Stores.{Store}
 use Rattle.relation_solver.specs.Rules.{Rule, one, all}
 use Rattle.relation_solver.specs.Traces.{Without, first, later, Did, goal, rule, yes, no, FollowsBy}
-use Rattle.relation_solver.specs.Traces.{StandsFirst, Proves, ProvesBy, by_opening, none_asked, one_of}
+use Rattle.relation_solver.specs.Traces.{Proves, ProvesBy, by_opening, none_asked, one_of}
 use Rattle.relation_solver.proofs.Deriving.{proved_in, proved_by_one}
 use Rattle.relation_solver.proofs.Going.{LeavesToAsk, asks_begin, asks_go_on, asks_end, asks_fail}
-use Rattle.relation_solver.proofs.Going.{rule_is_apart, rule_fails, rule_follows}
-use Rattle.relation_proving.specs.declared.candidate.Candidate.TheVariants.{Asks, Apart}
+use Rattle.relation_solver.proofs.Going.{rule_is_apart, rule_gives_way, rule_fails, rule_follows}
+use Rattle.relation_proving.specs.declared.opening.KeyedRule.{KeyedRule}
+use Rattle.relation_proving.specs.declared.candidate.Candidate.TheVariants.{Asks, Apart, GivesWay as GaveWay}
 use Rattle.relation_proving.specs.declared.told.Blame.{Blame}
 use Rattle.relation_proving.specs.declared.told.Told.{Told}
 use Rattle.relation_proving.specs.declared.told.Told.TheVariants.{Yes, No, Maybe}
 use Rattle.relation_proving.specs.declared.searching.Round.TheVariants.{Proved, Failed}
 use Rattle.relation_proving.specs.declared.searching.Verdict.{Verdict}
 use Rattle.relation_proving.specs.declared.searching.Verdict.TheVariants.{Proven, Refuted, Untold}
-use Rattle.relation_proving.specs.Candidates.{MayAsk, MayTry, OpensAsking, TellsCandidate}
+use Rattle.relation_proving.specs.Candidates.{MayAsk, MayTry, OpensAsking}
+use Rattle.relation_proving.specs.Shadowing.{TellsCandidate}
 use Rattle.relation_proving.specs.Candidates.{IsFirstOrderAt, IsFirstOrderClause, IsFirstOrderRule}
-use Rattle.relation_proving.specs.RuleTerms.{MayUse}
+use Rattle.relation_proving.specs.RuleTerms.{held_of, MayUse}
 use Rattle.relation_proving.specs.Telling.{GoesOn, IsBack, IsExact, goal_tree, TellsGoal, TellsAll, TellsRule}
 use Rattle.relation_proving.specs.Telling.{IsProved, IsProvedBy, rule_at, KnowsBlame, TellsYes}
 use Rattle.relation_proving.specs.RuleTerms.{IsRuleOf}
@@ -48,7 +48,7 @@ without_at f (y ∷ ys) (suc i) x l e =
 
 module _ {Key Id Name : Type 0} where
   -- What is told of a goal in a context that is back is told of it in the one before.
-  module _ (c d e : Context Key Id Name) (b : IsBack c d) (ks : List (Binder Key (ClausesKey Key)))
+  module _ (c d e : Context Key Id Name) (b : IsBack c d) (ks : List (KeyedRule Key))
       (env : ParamEnvKey Key) (known_env : KnowsEnv c env) (uses : All (MayUse c) ks) (g : ClauseKey Key)
       (asked : MayAsk c g) where
     same_goal : goal_tree d g ≡ goal_tree c g
@@ -62,11 +62,11 @@ module _ {Key Id Name : Type 0} where
 
     proved_back : (rs : List Rule) (r : Rule) → IsProvedBy d e ks env rs r g → IsProvedBy c e ks env rs r g
     proved_back rs r h =
-        subst (λ z. ProvesBy (items_of c.meaning) ((c.meaning).param_env env) (e.store).universe [] rs [] c.store
+        subst (λ z. ProvesBy (items_of c.meaning) ((c.meaning).param_env env) (e.store).universe (held_of ks rs) rs [] c.store
         e.store r z) same_goal
-        (subst (λ z. ProvesBy (items_of c.meaning) ((c.meaning).param_env env) (e.store).universe [] rs [] z e.store r
+        (subst (λ z. ProvesBy (items_of c.meaning) ((c.meaning).param_env env) (e.store).universe (held_of ks rs) rs [] z e.store r
         (goal_tree d g)) (b.same).store
-        (subst₂ (λ x y. ProvesBy x y (e.store).universe [] rs [] d.store e.store r (goal_tree d g))
+        (subst₂ (λ x y. ProvesBy x y (e.store).universe (held_of ks rs) rs [] d.store e.store r (goal_tree d g))
         (items_stay b.grown) ((b.grown).param_env env known_env) h))
 
     pub goal_back : (told : Told Key) → TellsGoal d e ks env g told → TellsGoal c e ks env g told
@@ -75,37 +75,37 @@ module _ {Key Id Name : Type 0} where
       λ u rs x f.
           let s = t.1 u rs (exact_back c d b ks u rs uses x) (first_order_then f) in
           record {
-            did = subst (λ z. Did u [] rs c.store (goal z) (yes e.store)) same_goal
-                (subst (λ z. Did u [] rs z (goal (goal_tree d g)) (yes e.store)) (b.same).store s.did);
+            did = subst (λ z. Did u (held_of ks rs) rs c.store (goal z) (yes e.store)) same_goal
+                (subst (λ z. Did u (held_of ks rs) rs z (goal (goal_tree d g)) (yes e.store)) (b.same).store s.did);
             store = s.store;
           },
       λ rs x. proved_back rs (rule_at rs i) (t.2 rs (rules_then rs x)),
     )
     goal_back (No named) t = (
       back_through c d e b t.0,
-      λ u rs x f. subst (λ z. Did u [] rs c.store (goal z) no) same_goal
-          (subst (λ z. Did u [] rs z (goal (goal_tree d g)) no) (b.same).store
+      λ u rs x f. subst (λ z. Did u (held_of ks rs) rs c.store (goal z) no) same_goal
+          (subst (λ z. Did u (held_of ks rs) rs z (goal (goal_tree d g)) no) (b.same).store
           (t.1 u rs (exact_back c d b ks u rs uses x) (first_order_then f))),
       t.2,
     )
     goal_back (Maybe why) t = back_through c d e b t
 
-    pub rule_back : (k : Binder Key (ClausesKey Key)) → MayUse c k → (told : Verdict Key) → TellsRule d e ks env k g told →
+    pub rule_back : (k : KeyedRule Key) → MayUse c k → (told : Verdict Key) → TellsRule d e ks env k g told →
         TellsRule c e ks env k g told
     rule_back k may Proven t = (
       λ u rs r x f i h.
           let s = t.0 u rs r (exact_back c d b ks u rs uses x) (rule_first_order c d (back_goes c d b) k r may f) i
           (first_order_then h) in
           record {
-            follows = subst (λ z. FollowsBy u [] rs c.store e.store r z) same_goal
-                (subst (λ z. FollowsBy u [] rs z e.store r (goal_tree d g)) (b.same).store s.follows);
+            follows = subst (λ z. FollowsBy u (held_of ks rs) rs c.store e.store r z) same_goal
+                (subst (λ z. FollowsBy u (held_of ks rs) rs z e.store r (goal_tree d g)) (b.same).store s.follows);
             store = s.store;
           },
       λ rs r x f i. proved_back rs r (t.1 rs r (rules_then rs x) (rule_on c d (back_goes c d b) k r may f) i),
     )
     rule_back k may (Refuted named) t = (
-      λ u rs r x f i h. subst (λ z. Did u [] rs c.store (rule r z) no) same_goal
-          (subst (λ z. Did u [] rs z (rule r (goal_tree d g)) no) (b.same).store
+      λ u rs r x f i h. subst (λ z. Did u (held_of ks rs) rs c.store (rule r z) no) same_goal
+          (subst (λ z. Did u (held_of ks rs) rs z (rule r (goal_tree d g)) no) (b.same).store
           (t.0 u rs r (exact_back c d b ks u rs uses x) (rule_first_order c d (back_goes c d b) k r may f) i
           (first_order_then h))),
       t.1,
@@ -114,18 +114,14 @@ module _ {Key Id Name : Type 0} where
 
   -- Of a goal and a rule that was tried, by what is told of what it asks for.
   module _ (c d e : Context Key Id Name) (env : ParamEnvKey Key) (known_env : KnowsEnv c env)
-      (k : Binder Key (ClausesKey Key)) (g : ClauseKey Key) (ks : List (Binder Key (ClausesKey Key))) (on : GoesOn c d)
+      (k : KeyedRule Key) (g : ClauseKey Key) (ks : List (KeyedRule Key)) (on : GoesOn c d)
       (uses : All (MayUse c) ks) where
     may_try : (u : ℕ) (rs : List Rule) (r : Rule) → IsExact u c ks rs → IsFirstOrderRule c k r →
         IsFirstOrderClause (goal_tree c g) → MayTry c k g u r
     may_try u rs r x f h = record { store = x.store; rule = f; goal = h }
 
-    -- The environment has nothing that a rule gives way to.
-    stands_first : (middle : Store) (r : Rule) (vars : List Tree) → StandsFirst [] middle r vars
-    stands_first middle r vars = λ clause had i j. let below : j.0 < 0 = j.1 in absurd (omega (arith, below))
-
     by_rule : (asks : List (ClauseKey Key)) → GoesOn d e → (rs : List Rule) (r : Rule) → Contains rs r →
-        OpensAsking c d env g r asks → IsProved d e ks env rs (all (map (goal_tree d) asks)) →
+        OpensAsking c d env g (held_of ks rs) r asks → IsProved d e ks env rs (all (map (goal_tree d) asks)) →
         IsProvedBy c e ks env rs r g
     by_rule asks then rs r i o h = by_opening e.store r (goal_tree c g) (record {
       there = i;
@@ -137,69 +133,77 @@ module _ {Key Id Name : Type 0} where
       opens = o.opens;
       relates = o.relates;
       shrinks = o.shrinks;
-      stands = stands_first d.store r o.vars;
-      asks = subst (λ z. Proves (items_of c.meaning) ((c.meaning).param_env env) (e.store).universe [] rs [] d.store
+      stands = o.stands;
+      asks = subst (λ z. Proves (items_of c.meaning) ((c.meaning).param_env env) (e.store).universe (held_of ks rs) rs [] d.store
           (all z) e.store) o.asks_are
-          (subst₂ (λ x y. Proves x y (e.store).universe [] rs [] d.store (all (map (goal_tree d) asks)) e.store)
+          (subst₂ (λ x y. Proves x y (e.store).universe (held_of ks rs) rs [] d.store (all (map (goal_tree d) asks)) e.store)
           (items_stay on.grown) ((on.grown).param_env env known_env) h);
     })
 
-    pub by_asks : (asks : Vec (ClauseKey Key)) → TellsCandidate c env k g d (Asks asks) → GoesOn d e →
+    pub by_asks : (asks : Vec (ClauseKey Key)) → TellsCandidate c ks env k g d (Asks asks) → GoesOn d e →
         (told : Verdict Key) → TellsAll d e ks env asks.items told → TellsRule c e ks env k g told
     by_asks asks t then Proven h = (
       λ u rs r x f i o.
-          let a = t.1 u r (may_try u rs r x f o) in
+          let a = t.1 u rs r x (may_try u rs r x f o) in
           let s = h.0 u rs (exact_on c d on ks u rs uses a.store x) a.asks_first_order in
           record {
-            follows = rule_follows u [] rs c.store a.opened r a.vars (goal_tree c g) (inst a.vars 0 r.gives)
-                (map (goal_tree d) asks.items) a.opens ((f.rule).is_rule).shadowed_by_none refl a.asks_are d.store
-                e.store i a.exact s.did;
+            follows = rule_follows u (held_of ks rs) rs c.store a.opened r a.vars (goal_tree c g) (inst a.vars 0 r.gives)
+                (map (goal_tree d) asks.items) a.opens refl a.asks_are d.store e.store i a.exact a.stands s.did;
             store = s.store;
           },
-      λ rs r x f i. by_rule asks.items then rs r i (t.2 r f) (h.1 rs (rules_on c d on ks rs uses x)),
+      λ rs r x f i. by_rule asks.items then rs r i (t.2 rs r x f) (h.1 rs (rules_on c d on ks rs uses x)),
     )
     by_asks asks t then (Refuted named) h = (
       λ u rs r x f i o.
-          let a = t.1 u r (may_try u rs r x f o) in
-          rule_fails u [] rs c.store a.opened r a.vars (goal_tree c g) (inst a.vars 0 r.gives)
-          (map (goal_tree d) asks.items) a.opens ((f.rule).is_rule).shadowed_by_none refl a.asks_are d.store a.exact
+          let a = t.1 u rs r x (may_try u rs r x f o) in
+          rule_fails u (held_of ks rs) rs c.store a.opened r a.vars (goal_tree c g) (inst a.vars 0 r.gives)
+          (map (goal_tree d) asks.items) a.opens refl a.asks_are d.store a.exact
           (h.0 u rs (exact_on c d on ks u rs uses a.store x) a.asks_first_order),
       h.1,
     )
     by_asks asks t then (Untold why) h = tt
 
-    pub by_apart : TellsCandidate c env k g d Apart → TellsRule c d ks env k g (Refuted None)
+    pub by_apart : TellsCandidate c ks env k g d Apart → TellsRule c d ks env k g (Refuted None)
     by_apart t = (
       λ u rs r x f i o.
           let a = t u r (may_try u rs r x f o) in
-          rule_is_apart u [] rs c.store a.opened r a.vars (goal_tree c g) (inst a.vars 0 r.gives)
-          (map (inst a.vars 0) r.asks) a.opens ((f.rule).is_rule).shadowed_by_none refl refl a.none,
+          rule_is_apart u (held_of ks rs) rs c.store a.opened r a.vars (goal_tree c g) (inst a.vars 0 r.gives)
+          (map (inst a.vars 0) r.asks) a.opens refl refl a.none,
       tt,
     )
 
-    pub by_asks_result : {F : Type 0} (asks : Vec (ClauseKey Key)) → TellsCandidate c env k g d (Asks asks) →
+    pub by_giving_way : TellsCandidate c ks env k g d GaveWay → TellsRule c d ks env k g (Refuted None)
+    by_giving_way t = (
+      λ u rs r x f i o.
+          let a = t u rs r x (may_try u rs r x f o) in
+          rule_gives_way u (held_of ks rs) rs c.store a.opened r a.vars (goal_tree c g) (inst a.vars 0 r.gives)
+          (map (inst a.vars 0) r.asks) a.opens refl refl a.middle a.exact a.gives_way,
+      tt,
+    )
+
+    pub by_asks_result : {F : Type 0} (asks : Vec (ClauseKey Key)) → TellsCandidate c ks env k g d (Asks asks) →
         GoesOn d e → (result : Result (Verdict Key) F) → IfOk result (TellsAll d e ks env asks.items) →
         IfOk result (TellsRule c e ks env k g)
     by_asks_result asks t then (Ok told) h = by_asks asks t then told h
     by_asks_result asks t then (Err f) h = tt
 
   -- What is left to ask of a list, once some of it was proved.
-  module _ (c d : Context Key Id Name) (ks : List (Binder Key (ClausesKey Key))) (asks left : List (ClauseKey Key))
+  module _ (c d : Context Key Id Name) (ks : List (KeyedRule Key)) (asks left : List (ClauseKey Key))
       (u : ℕ) (rs : List Rule) where
     pub record Leaves : Type 0 where
-      pub leaves : LeavesToAsk u [] rs c.store (map (goal_tree c) asks) d.store (map (goal_tree d) left)
+      pub leaves : LeavesToAsk u (held_of ks rs) rs c.store (map (goal_tree c) asks) d.store (map (goal_tree d) left)
       pub store : IsFirstOrderAt u d.store
       pub first_order : All (λ g. IsFirstOrderClause (goal_tree d g)) left
 
   -- Whatever proves what is left proves all.
-  abbrev pub LeavesToProve : (c d : Context Key Id Name) → List (Binder Key (ClausesKey Key)) → ParamEnvKey Key →
+  abbrev pub LeavesToProve : (c d : Context Key Id Name) → List (KeyedRule Key) → ParamEnvKey Key →
       List (ClauseKey Key) → List (ClauseKey Key) → Type 0
   LeavesToProve c d ks env asks left = (rs : List Rule) → AllZip (IsRuleOf c) ks rs → (after : Store) (u : ℕ) →
       (d.store).universe ≤ u →
-      Proves (items_of c.meaning) ((c.meaning).param_env env) u [] rs [] d.store (all (map (goal_tree d) left)) after →
-      Proves (items_of c.meaning) ((c.meaning).param_env env) u [] rs [] c.store (all (map (goal_tree c) asks)) after
+      Proves (items_of c.meaning) ((c.meaning).param_env env) u (held_of ks rs) rs [] d.store (all (map (goal_tree d) left)) after →
+      Proves (items_of c.meaning) ((c.meaning).param_env env) u (held_of ks rs) rs [] c.store (all (map (goal_tree c) asks)) after
 
-  pub record AsksOn (c d : Context Key Id Name) (ks : List (Binder Key (ClausesKey Key))) (env : ParamEnvKey Key)
+  pub record AsksOn (c d : Context Key Id Name) (ks : List (KeyedRule Key)) (env : ParamEnvKey Key)
       (asks left : List (ClauseKey Key)) : Type 0 where
     pub goes_on : GoesOn c d
     pub may_ask : All (MayAsk d) left
@@ -207,14 +211,14 @@ module _ {Key Id Name : Type 0} where
         Leaves c d ks asks left u rs
     pub proves : LeavesToProve c d ks env asks left
 
-  module _ (c : Context Key Id Name) (ks : List (Binder Key (ClausesKey Key))) (env : ParamEnvKey Key)
+  module _ (c : Context Key Id Name) (ks : List (KeyedRule Key)) (env : ParamEnvKey Key)
       (asks : List (ClauseKey Key)) where
     pub asking_begins : c.lawful → All (MayAsk c) asks → AsksOn c c ks env asks asks
     asking_begins l h = record {
       goes_on = goes_itself c l;
       may_ask = h;
       told = λ u rs x f. record {
-        leaves = asks_begin u [] rs c.store (map (goal_tree c) asks);
+        leaves = asks_begin u (held_of ks rs) rs c.store (map (goal_tree c) asks);
         store = x.store;
         first_order = f;
       };
@@ -226,7 +230,7 @@ module _ {Key Id Name : Type 0} where
       λ u rs x f.
           let l = a.told u rs x f in
           record {
-            did = asks_end u [] rs c.store d.store (map (goal_tree c) asks) l.leaves;
+            did = asks_end u (held_of ks rs) rs c.store d.store (map (goal_tree c) asks) l.leaves;
             store = l.store;
           },
       λ rs x. a.proves rs x d.store (d.store).universe (omega arith) (none_asked d.store),
@@ -260,9 +264,9 @@ module _ {Key Id Name : Type 0} where
           a.proves rs x after u (le_trans (on.later).universe_stands l)
           (one_of d.store e.store after (goal_tree d t.1.0) (map (goal_tree d) left) (map (goal_tree d) (remove left i))
           (without_at (goal_tree d) left i t.1.0 t.0 t.1.1)
-          (proved_in l (subst₂ (λ y z. Proves y z (e.store).universe [] rs [] d.store (one (goal_tree d t.1.0)) e.store)
+          (proved_in l (subst₂ (λ y z. Proves y z (e.store).universe (held_of ks rs) rs [] d.store (one (goal_tree d t.1.0)) e.store)
           (items_stay (a.goes_on).grown) (((a.goes_on).grown).param_env env known_env) one_proved))
-          (subst (λ z. Proves (items_of c.meaning) ((c.meaning).param_env env) u [] rs [] e.store (all z) after)
+          (subst (λ z. Proves (items_of c.meaning) ((c.meaning).param_env env) u (held_of ks rs) rs [] e.store (all z) after)
           (same_goals (remove left i) may) p))
 
       pub asking_goes_on : (i : ℕ) → TellsRound d e ks env left (Proved i) → AsksOn c e ks env asks (remove left i)
@@ -276,9 +280,9 @@ module _ {Key Id Name : Type 0} where
                 let s = t.1.2.0 u rs (exact_then u rs x l.store) (is_goal i t.1.0 t.0 t.1.1
                 (λ g. IsFirstOrderClause (goal_tree d g)) l.first_order) in
                 record {
-                  leaves = subst (LeavesToAsk u [] rs c.store (map (goal_tree c) asks) e.store)
+                  leaves = subst (LeavesToAsk u (held_of ks rs) rs c.store (map (goal_tree c) asks) e.store)
                       (sym (same_goals (remove left i) may))
-                      (asks_go_on u [] rs c.store d.store e.store (map (goal_tree c) asks) (map (goal_tree d) left)
+                      (asks_go_on u (held_of ks rs) rs c.store d.store e.store (map (goal_tree c) asks) (map (goal_tree d) left)
                       (map (goal_tree d) (remove left i)) (goal_tree d t.1.0) l.leaves
                       (without_at (goal_tree d) left i t.1.0 t.0 t.1.1) s.did on.later);
                   store = s.store;
@@ -295,7 +299,7 @@ module _ {Key Id Name : Type 0} where
             let l = a.told u rs x f in
             let i = t.1.0 in
             let g = t.1.2.0 in
-            asks_fail u [] rs c.store d.store (map (goal_tree c) asks) (map (goal_tree d) left)
+            asks_fail u (held_of ks rs) rs c.store d.store (map (goal_tree c) asks) (map (goal_tree d) left)
             (map (goal_tree d) (remove left i)) (goal_tree d g) l.leaves
             (without_at (goal_tree d) left i g t.1.1 t.1.2.1)
             (t.1.2.2 u rs (exact_then u rs x l.store)
@@ -304,13 +308,13 @@ module _ {Key Id Name : Type 0} where
       )
 
   -- What a no names is known.
-  pub named_known : (c d : Context Key Id Name) (ks : List (Binder Key (ClausesKey Key))) (env : ParamEnvKey Key)
+  pub named_known : (c d : Context Key Id Name) (ks : List (KeyedRule Key)) (env : ParamEnvKey Key)
       (g : ClauseKey Key) (named : Option (Blame Key)) (told : Told Key) → told ≡ No named →
       TellsGoal c d ks env g told → IfSome named (KnowsBlame d ks)
   named_known c d ks env g named told is t = (subst (TellsGoal c d ks env g) is t).2
 
   -- A goal of a list that was asked in a context which is back.
-  module _ (c d e : Context Key Id Name) (b : IsBack c d) (ks : List (Binder Key (ClausesKey Key)))
+  module _ (c d e : Context Key Id Name) (b : IsBack c d) (ks : List (KeyedRule Key))
       (env : ParamEnvKey Key) (known_env : KnowsEnv c env) (uses : All (MayUse c) ks) (gs : List (ClauseKey Key)) (asked : All (MayAsk c) gs) (i : ℕ) (l : i < length gs)
       (g : ClauseKey Key) (is : g ≡ get_or gs i g) where
     may_ask : MayAsk c g

@@ -1,5 +1,5 @@
 -- What a quick test bars is no instance of what a rule gives.
-use Rattle.std.proofs.Common.{◌≡◌, ◌∙◌, ◌<◌, ℕ, zero, suc, refl, sym, ap, subst, subst₂, List, [], ◌∷◌, length, get_or, All}
+use Rattle.std.proofs.Common.{◌≡◌, ◌∙◌, ◌<◌, ℕ, zero, suc, refl, sym, ap, subst, subst₂, List, [], ◌∷◌, ◌++◌, length, get_or, All}
 use Rattle.std.proofs.Common.{true, false, Option, Some, None, IsTrue, arith}
 use Rattle.std.specs.Prelude.{Bool, IsFalse, not}
 use Rattle.std.proofs.lemmas.Bool.{and_parts, true≢false, false≢true}
@@ -10,7 +10,6 @@ use Rattle.relation_terms.specs.declared.predicate.kinds.ClauseKind.TheVariants.
 use Rattle.relation_terms.specs.declared.terms.binder.Binder.{Binder}
 use Rattle.relation_terms.specs.declared.terms.keys.ArgsKey.{ArgsKey}
 use Rattle.relation_terms.specs.declared.terms.keys.ClauseKey.{ClauseKey}
-use Rattle.relation_terms.specs.declared.terms.keys.ClausesKey.{ClausesKey}
 use Rattle.relation_terms.specs.declared.terms.keys.ParamEnvKey.{ParamEnvKey}
 use Rattle.relation_terms.specs.Erasure.{erase}
 use Rattle.relation_terms.specs.Heads.{BoundKind, AliasTermKind, trait_ref, trait_clause, projection, alias_term}
@@ -33,6 +32,7 @@ use Rattle.relation_semantics.specs.FirstOrder.{IsFirstOrder, IsErasedSolution}
 use Rattle.relation_semantics.specs.Relation.{IsValueLeaf}
 use Rattle.relation_semantics.specs.Stores.{Store, InContext, IsTermIn}
 use Rattle.relation_solver.specs.Traces.{no_form}
+use Rattle.relation_proving.specs.declared.opening.KeyedRule.{KeyedRule}
 use Rattle.relation_proving.specs.Barring.{IsNoInstance, Bars, BarsClause, NeverGives}
 use Rattle.relation_proving.specs.Bodies.{IsBodyOf}
 use Rattle.relation_proving.specs.Candidates.{IsFirstOrderClause, MayAsk}
@@ -239,15 +239,15 @@ module _ {Key Id Name : Type 0} (c : Context Key Id Name) where
       subst (λ z. IsNoInstance c z ((c.meaning).clause given)) (sym says)
       (subst (λ z. IsNoInstance c (bind [] (clause_kind_tree c.meaning q)) z) (sym gives) apart)
 
-  module _ (k : Binder Key (ClausesKey Key)) (g : ClauseKey Key) where
+  module _ (k : KeyedRule Key) (g : ClauseKey Key) where
     barred_never : Sorted c.meaning → MayUse c k → (given : ClauseKey Key) (others : Tree) →
-        (c.meaning).clauses k.value ≡ cons ((c.meaning).clause given) others →
+        (c.meaning).clauses (k.clauses).value ≡ cons ((c.meaning).clause given) others →
         IsTrue (known ((c.meaning).clause given)) →
         BarsClause c ((c.meaning).clause g) ((c.meaning).clause given) → NeverGives c k g
     barred_never sorted used given others e sure bars = λ u r may s xs sol fits same.
         let is = (may.rule).rule.is_rule in
-        let gives : r.gives ≡ (c.meaning).clause given = first_given ((c.meaning).bound_vars k.bound_vars) r.binds
-        ((c.meaning).clauses k.value) r.gives (list_tree (λ x. x) r.asks) ((c.meaning).clause given) others is.clauses e in
+        let gives : r.gives ≡ (c.meaning).clause given = first_given ((c.meaning).bound_vars (k.clauses).bound_vars) r.binds
+        ((c.meaning).clauses (k.clauses).value) r.gives (list_tree (λ x. x) (r.shadowed_by ++ r.asks)) ((c.meaning).clause given) others is.clauses e in
         let bound = subst IsWellBound is.clauses used.taken in
         let closed = subst (Leaves IsValueLeaf) is.clauses (may.rule).rule.closed in
         let instance : Instance (flexible true) r.gives (inst xs 0 r.gives) = opened_is_instance (flexible true) r.binds xs
@@ -258,7 +258,7 @@ module _ {Key Id Name : Type 0} (c : Context Key Id Name) where
         (subst (λ t. Instance (flexible true) t (inst xs 0 r.gives)) gives instance) same
 
     pub listed_never : Sorted c.meaning → MayUse c k → (xs ys : List (ClauseKey Key)) (given : ClauseKey Key) →
-        (c.meaning).clauses k.value ≡ list_tree (c.meaning).clause xs → xs ≡ given ∷ ys →
+        (c.meaning).clauses (k.clauses).value ≡ list_tree (c.meaning).clause xs → xs ≡ given ∷ ys →
         IsTrue (known ((c.meaning).clause given)) →
         BarsClause c ((c.meaning).clause g) ((c.meaning).clause given) → NeverGives c k g
     listed_never sorted used xs ys given listed first sure bars =
@@ -271,8 +271,8 @@ module _ {Key Id Name : Type 0} (c : Context Key Id Name) where
         (same ∙ ap (λ t. erase (inst xs 0 t)) (gives_is c.meaning k g r ((may.rule).rule).is_rule a))
 
 -- A rule that never gives what a goal asks for fails.
-module _ {Key Id Name : Type 0} (c d : Context Key Id Name) (ks : List (Binder Key (ClausesKey Key)))
-    (e : ParamEnvKey Key) (k : Binder Key (ClausesKey Key)) (g : ClauseKey Key) where
+module _ {Key Id Name : Type 0} (c d : Context Key Id Name) (ks : List (KeyedRule Key))
+    (e : ParamEnvKey Key) (k : KeyedRule Key) (g : ClauseKey Key) where
   pub never_fails : NeverGives c k g → TellsRule c d ks e k g (Refuted None)
   never_fails n = (
     λ u rs r x f i h. no_form c.store r (goal_tree c g) (λ s xs sol fits named same.

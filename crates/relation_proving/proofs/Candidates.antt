@@ -1,11 +1,9 @@
 -- A rule that was tried for a goal: what is told of its opened clauses, as what a trace says of it.
-use Rattle.std.proofs.Common.{◌≡◌, ℕ, List, [], ◌∷◌, refl, sym, ◌∙◌, ap, ap₂, subst, subst₂, map, All, IsTrue}
-use Rattle.std.specs.Prelude.{IfOk, Result, Ok, Err}
+use Rattle.std.proofs.Common.{◌≡◌, ℕ, List, [], ◌∷◌, ◌++◌, refl, sym, ◌∙◌, ap, ap₂, subst, subst₂, map, All}
+use Rattle.std.proofs.Common.{IsTrue, map-append}
 use Rattle.std.specs.Global.{Vec}
 use Rattle.std.proofs.lemmas.List.Elements.{All-nil, All-cons, All-head, All-tail}
-use Rattle.relation_terms.specs.declared.terms.binder.Binder.{Binder}
 use Rattle.relation_terms.specs.declared.terms.keys.ClauseKey.{ClauseKey}
-use Rattle.relation_terms.specs.declared.terms.keys.ClausesKey.{ClausesKey}
 use Rattle.relation_terms.specs.declared.terms.keys.ParamEnvKey.{ParamEnvKey}
 use Rattle.relation_terms.specs.Heads.{BoundKind}
 use Rattle.relation_terms.specs.Trees.{Tree, inst, known, apply}
@@ -20,15 +18,18 @@ use Rattle.relation_semantics.specs.Stores.{Store, IsTermIn, entry_term}
 use Rattle.relation_semantics.proofs.Answering.{items_stay}
 use Rattle.relation_semantics.proofs.Standing.{later_term}
 use Rattle.relation_solver.specs.Rules.{Rule, Meets}
-use Rattle.relation_solver.specs.Traces.{Opens}
-use Rattle.relation_proving.specs.declared.candidate.Candidate.{Candidate}
-use Rattle.relation_proving.specs.declared.candidate.Candidate.TheVariants.{Asks, Apart as GivesNothing, Unclear}
+use Rattle.relation_solver.specs.Traces.{Opens, StandsFirst, StandsExactly}
+use Rattle.relation_solver.specs.Traces.{GivesWay as IsShadowedThen}
+use Rattle.relation_proving.specs.declared.opening.KeyedRule.{KeyedRule}
 use Rattle.relation_proving.specs.declared.fitting.Fitting.{Fitting}
 use Rattle.relation_proving.specs.declared.fitting.Fitting.TheVariants.{Fits, Apart, Left}
-use Rattle.relation_proving.specs.Candidates.{candidate_by, TellsCandidate, TellsOpened, OpensAsking, TellsClauses}
+use Rattle.relation_proving.specs.Candidates.{candidate_by, TellsOpened, OpensAsking, TellsClauses, IsFirstOrderAt, GaveWay}
 use Rattle.relation_proving.specs.Candidates.{AreVariablesFor, IsFirstOrderClause, MayAsk, MayTry, AsksFor, GivesNone}
 use Rattle.relation_proving.specs.Candidates.{AreFirstOrder, ClausesMeet, ClausesAreApart}
-use Rattle.relation_proving.specs.RuleTerms.{IsRuleOf, OpensRule}
+use Rattle.relation_proving.specs.RuleTerms.{IsRuleOf, GivesWayTo, OpensRule}
+use Rattle.relation_proving.specs.declared.opening.RuleKind.{RuleKind}
+use Rattle.relation_proving.specs.declared.opening.RuleKind.TheVariants.{Plain, Held, GivesWay}
+use Rattle.relation_proving.proofs.OpenedRules.{all_right, images_left, images_right}
 use Rattle.relation_folds.proofs.Lists.{list_first, list_others}
 
 -- What holds of all images holds of the image of each.
@@ -46,6 +47,26 @@ variables_for before after u (k ∷ ks) (x ∷ xs) h =
 variables_for before after u [] (x ∷ xs) h = absurd h
 variables_for before after u (k ∷ ks) [] h = absurd h
 
+none_before : {T : Type 0} (f : T → Tree) (xs ys : List T) (us vs : List Tree) → xs ≡ [] → us ≡ [] →
+    map f (xs ++ ys) ≡ us ++ vs → (map f xs ≡ us) × (map f ys ≡ vs)
+none_before f xs ys us vs h i e = (
+  ap (map f) h ∙ sym i,
+  sym (ap (λ z. map f (z ++ ys)) h) ∙ (e ∙ ap (λ z. z ++ vs) i),
+)
+
+one_before : {T : Type 0} (f : T → Tree) (xs ys : List T) (us vs : List Tree) (x : T) (u : Tree) → xs ≡ x ∷ [] →
+    us ≡ u ∷ [] → map f (xs ++ ys) ≡ us ++ vs → (map f xs ≡ us) × (map f ys ≡ vs)
+one_before f xs ys us vs x u h i e =
+    let same : f x ∷ map f ys ≡ u ∷ vs = sym (ap (λ z. map f (z ++ ys)) h) ∙ (e ∙ ap (λ z. z ++ vs) i) in (
+      ap (map f) h ∙ (ap (λ z. z ∷ []) (list_first same) ∙ sym i),
+      list_others same,
+    )
+
+images_way : (kind : RuleKind) (f : Tree → Tree) (ts : List Tree) → GivesWayTo kind ts → GivesWayTo kind (map f ts)
+images_way Plain f ts h = ap (map f) h
+images_way Held f ts h = ap (map f) h
+images_way GivesWay f ts h = (f h.0, ap (map f) h.1)
+
 module _ {Key Id Name : Type 0} where
   -- Known clauses mean what they meant.
   pub clauses_stay : (m n : Meaning Key Id Name) → Extends m n → (ks : List (ClauseKey Key)) →
@@ -55,13 +76,21 @@ module _ {Key Id Name : Type 0} where
       (e.clause k (All-head (λ k. IsTrue (known (m.clause k))) k ks h))
       (clauses_stay m n e ks (All-tail (λ k. IsTrue (known (m.clause k))) k ks h))
 
-  module _ (c d e : Context Key Id Name) (rule : Binder Key (ClausesKey Key)) (g given : ClauseKey Key)
-      (asks : List (ClauseKey Key)) (opened : OpensRule c d rule (given ∷ asks))
-      (grown : Extends c.meaning d.meaning) (grown_on : Extends d.meaning e.meaning)
-      (later : IsLater d.store e.store) where
+  -- Lists that a rule gives way to and asks for, as its kind has it, and their trees.
+  lists_same : {T : Type 0} (kind : RuleKind) (f : T → Tree) (xs ys : List T) (us vs : List Tree) →
+      GivesWayTo kind xs → GivesWayTo kind us → map f (xs ++ ys) ≡ us ++ vs → (map f xs ≡ us) × (map f ys ≡ vs)
+  lists_same Plain f xs ys us vs h i e = none_before f xs ys us vs h i e
+  lists_same Held f xs ys us vs h i e = none_before f xs ys us vs h i e
+  lists_same GivesWay f xs ys us vs h i e = one_before f xs ys us vs h.0 i.0 h.1 i.1 e
+
+  module _ (c d e : Context Key Id Name) (rule : KeyedRule Key) (g given : ClauseKey Key)
+      (before asks : List (ClauseKey Key)) (kinds : GivesWayTo rule.kind before)
+      (opened : OpensRule c d rule (given ∷ (before ++ asks))) (grown : Extends c.meaning d.meaning)
+      (grown_on : Extends d.meaning e.meaning) (later : IsLater d.store e.store) where
     -- What it asks for may be asked.
     asks_known : All (λ k. IsTrue (known ((d.meaning).clause k))) asks
-    asks_known = All-tail (λ k. IsTrue (known ((d.meaning).clause k))) given asks opened.are_known
+    asks_known = all_right (λ k. IsTrue (known ((d.meaning).clause k))) before asks
+        (All-tail (λ k. IsTrue (known ((d.meaning).clause k))) given (before ++ asks) opened.are_known)
 
     transfer : (P Q : Tree → Type 0) → ((t : Tree) → P t → Q t) → (ks : List (ClauseKey Key)) →
         All (λ k. IsTrue (known ((d.meaning).clause k))) ks → All (λ k. P ((d.meaning).clause k)) ks →
@@ -77,9 +106,11 @@ module _ {Key Id Name : Type 0} where
     may_ask = each asks
         (transfer (λ t. IsTrue (known t)) (λ t. IsTrue (known t)) (λ t p. p) asks asks_known asks_known)
         (transfer (IsTermIn d.store) (IsTermIn e.store) (later_term d.store e.store later.grows later.universe_stands)
-        asks asks_known (All-tail (λ k. IsTermIn d.store ((d.meaning).clause k)) given asks opened.are_in))
+        asks asks_known (all_right (λ k. IsTermIn d.store ((d.meaning).clause k)) before asks
+        (All-tail (λ k. IsTermIn d.store ((d.meaning).clause k)) given (before ++ asks) opened.are_in)))
         (transfer IsWellBound IsWellBound (λ t p. p) asks asks_known
-        (All-tail (λ k. IsWellBound ((d.meaning).clause k)) given asks opened.are_taken))
+        (all_right (λ k. IsWellBound ((d.meaning).clause k)) before asks
+        (All-tail (λ k. IsWellBound ((d.meaning).clause k)) given (before ++ asks) opened.are_taken)))
       where
         each : (ks : List (ClauseKey Key)) → All (λ k. IsTrue (known ((e.meaning).clause k))) ks →
             All (λ k. IsTermIn e.store ((e.meaning).clause k)) ks → All (λ k. IsWellBound ((e.meaning).clause k)) ks →
@@ -98,19 +129,26 @@ module _ {Key Id Name : Type 0} where
 
       module _ (f : IsRuleOf c rule r) where
         found : (vars : List Tree) × Opens (c.store).universe c.store d.store r vars ×
-            (map (d.meaning).clause (given ∷ asks) ≡ map (inst vars 0) (r.gives ∷ r.asks))
+            (map (d.meaning).clause (given ∷ (before ++ asks)) ≡
+            map (inst vars 0) (r.gives ∷ (r.shadowed_by ++ r.asks)))
         found = opened.by_variables f.closed r f.is_rule
 
         gives_tree : inst (found).0 0 r.gives ≡ b
         gives_tree = sym (list_first (found).2)
 
+        others : (map (d.meaning).clause before ≡ map (inst (found).0 0) r.shadowed_by) ×
+            (map (d.meaning).clause asks ≡ map (inst (found).0 0) r.asks)
+        others = lists_same rule.kind (d.meaning).clause before asks (map (inst (found).0 0) r.shadowed_by)
+            (map (inst (found).0 0) r.asks) kinds (images_way rule.kind (inst (found).0 0) r.shadowed_by
+            (f.is_rule).gives_way_to) (list_others (found).2 ∙ map-append (inst (found).0 0) r.shadowed_by r.asks)
+
         asks_tree : map (e.meaning).clause asks ≡ map (inst (found).0 0) r.asks
-        asks_tree = clauses_stay d.meaning e.meaning grown_on asks asks_known ∙ list_others (found).2
+        asks_tree = clauses_stay d.meaning e.meaning grown_on asks asks_known ∙ (others).1
 
         -- What satisfies the record after makes the goal and what the rule gives say one thing.
-        pub asks_any : IsTrue (known ((c.meaning).param_env env)) → ClausesMeet d e env a b →
-            OpensAsking c e env g r asks
-        asks_any k m = record {
+        pub asks_any : (held : List Tree) → StandsExactly held e.store r (found).0 →
+            IsTrue (known ((c.meaning).param_env env)) → ClausesMeet d e env a b → OpensAsking c e env g held r asks
+        asks_any held stands k m = record {
           vars = (found).0;
           opened = d.store;
           opens = (found).1;
@@ -120,6 +158,7 @@ module _ {Key Id Name : Type 0} where
               (subst₂ (λ x y. Meets x w y (apply s a) (apply s b)) (items_stay grown) (grown.param_env env k)
               (m.meet w s h (All-nil (Holds (items_of d.meaning) w s))));
           shrinks = m.shrinks;
+          stands = stands;
           asks_are = asks_tree;
         }
 
@@ -130,15 +169,23 @@ module _ {Key Id Name : Type 0} where
         abbrev vars : List Tree
         vars = (found is_rule).0
 
-        first_order : All IsFirstOrderClause (map (inst vars 0) (r.gives ∷ r.asks))
+        first_order : All IsFirstOrderClause (map (inst vars 0) (r.gives ∷ (r.shadowed_by ++ r.asks)))
         first_order = (may.rule).clauses vars
             (variables_for c.store d.store (c.store).universe r.binds vars (((found is_rule).1).makes).are_new)
+
+        others_first_order : All IsFirstOrderClause (map (inst vars 0) (r.shadowed_by ++ r.asks))
+        others_first_order =
+            All-tail IsFirstOrderClause (inst vars 0 r.gives) (map (inst vars 0) (r.shadowed_by ++ r.asks)) first_order
+
+        pub shadows_first_order : All (λ t. IsFirstOrderClause (inst vars 0 t)) r.shadowed_by
+        shadows_first_order = images_left (inst vars 0) IsFirstOrderClause r.shadowed_by r.asks others_first_order
 
         pair : AreFirstOrder d.store a b
         pair = record {
           left = subst IsFirstOrderClause goal_tree may.goal;
           right = subst IsFirstOrderClause (gives_tree is_rule)
-              (All-head IsFirstOrderClause (inst vars 0 r.gives) (map (inst vars 0) r.asks) first_order);
+              (All-head IsFirstOrderClause (inst vars 0 r.gives) (map (inst vars 0) (r.shadowed_by ++ r.asks))
+              first_order);
           bindings = λ k n t b. (may.store).bindings k n t
               (ap (entry_term k) (sym ((((found is_rule).1).makes).same_entries k n)) ∙ b);
         }
@@ -146,20 +193,39 @@ module _ {Key Id Name : Type 0} where
         opens : Opens u c.store d.store r vars
         opens = subst (λ w. Opens w c.store d.store r vars) (may.store).universe (found is_rule).1
 
-        pub asks_for : ClausesMeet d e env a b → AsksFor c rule g u e r asks
-        asks_for f = record {
+        pub exactly : ClausesMeet d e env a b → Exact d.store e.store ((c.meaning).clause g) (inst vars 0 r.gives)
+        exactly f = subst₂ (Exact d.store e.store) (sym goal_tree) (sym (gives_tree is_rule)) (f.exact pair)
+
+        pub first_order_then : ClausesMeet d e env a b → IsFirstOrderAt u e.store
+        first_order_then f = record {
+          bindings = f.first_order pair;
+          universe = f.same_universe pair ∙ ((((found is_rule).1).makes).same_universe ∙ (may.store).universe);
+        }
+
+        pub asks_for : (held : List Tree) → StandsFirst held e.store r vars → ClausesMeet d e env a b →
+            AsksFor c rule g u e held r asks
+        asks_for held stands f = record {
           vars = vars;
           opened = d.store;
           opens = opens;
-          exact = subst₂ (Exact d.store e.store) (sym goal_tree) (sym (gives_tree is_rule)) (f.exact pair);
+          exact = exactly f;
+          stands = stands;
           asks_are = asks_tree is_rule;
           asks_first_order = each_image (e.meaning).clause IsFirstOrderClause asks
               (subst (All IsFirstOrderClause) (sym (asks_tree is_rule))
-              (All-tail IsFirstOrderClause (inst vars 0 r.gives) (map (inst vars 0) r.asks) first_order));
-          store = record {
-            bindings = f.first_order pair;
-            universe = f.same_universe pair ∙ ((((found is_rule).1).makes).same_universe ∙ (may.store).universe);
-          };
+              (images_right (inst vars 0) IsFirstOrderClause r.shadowed_by r.asks others_first_order));
+          store = first_order_then f;
+        }
+
+        pub gave_way : (held : List Tree) → IsShadowedThen held e.store r vars → ClausesMeet d e env a b →
+            GaveWay c rule g u held r
+        gave_way held way f = record {
+          vars = vars;
+          opened = d.store;
+          middle = e.store;
+          opens = opens;
+          exact = exactly f;
+          gives_way = way;
         }
 
         pub gives_none : ClausesAreApart d.store a b → GivesNone c rule g u r
@@ -182,7 +248,7 @@ module _ {Key Id Name : Type 0} where
         taken = subst IsWellBound (sym same) h.taken;
       }
 
-  pub first_may : (c d : Context Key Id Name) (rule : Binder Key (ClausesKey Key)) (given : ClauseKey Key)
+  pub first_may : (c d : Context Key Id Name) (rule : KeyedRule Key) (given : ClauseKey Key)
       (clauses asks : List (ClauseKey Key)) → clauses ≡ given ∷ asks → OpensRule c d rule clauses → MayAsk d given
   first_may c d rule given clauses asks is o =
       let opened = subst (OpensRule c d rule) is o in
@@ -191,26 +257,6 @@ module _ {Key Id Name : Type 0} where
         is_in = All-head (λ k. IsTermIn d.store ((d.meaning).clause k)) given asks opened.are_in;
         taken = All-head (λ k. IsWellBound ((d.meaning).clause k)) given asks opened.are_taken;
       }
-
-  -- Of a rule that was opened, by what is told of its first clause.
-  pub told : (c d e : Context Key Id Name) (rule : Binder Key (ClausesKey Key)) (g given : ClauseKey Key)
-      (clauses asks : List (ClauseKey Key)) → clauses ≡ given ∷ asks → (env : ParamEnvKey Key) →
-      OpensRule c d rule clauses → Extends c.meaning d.meaning → Extends d.meaning e.meaning →
-      IsLater d.store e.store → IsTrue (known ((c.meaning).clause g)) → IsTrue (known ((c.meaning).param_env env)) →
-      (candidate : Candidate Key) → TellsOpened d e env g given asks candidate →
-      TellsCandidate c env rule g e candidate
-  told c d e rule g given clauses asks is env o grown grown_on later known_g known_env (Asks v) f =
-      let opened = subst (OpensRule c d rule) is o in (
-        subst (λ z. All (MayAsk e) z) (sym f.0) (may_ask c d e rule g given asks opened grown grown_on later),
-        λ u r may. subst (λ z. AsksFor c rule g u e r z) (sym f.0)
-            (asks_for c d e rule g given asks opened grown grown_on later env known_g r u may f.1),
-        λ r is_rule. subst (λ z. OpensAsking c e env g r z) (sym f.0)
-            (asks_any c d e rule g given asks opened grown grown_on later env known_g r is_rule known_env f.1),
-      )
-  told c d e rule g given clauses asks is env o grown grown_on later known_g known_env GivesNothing f =
-      λ u r may. gives_none c d e rule g given asks (subst (OpensRule c d rule) is o) grown grown_on later env known_g r u
-      may f
-  told c d e rule g given clauses asks is env o grown grown_on later known_g known_env Unclear f = tt
 
   -- Of a goal and what an opened rule gives, by what became of them.
   pub told_opened : (c d : Context Key Id Name) (env : ParamEnvKey Key) (g given : ClauseKey Key)
@@ -221,12 +267,16 @@ module _ {Key Id Name : Type 0} where
   told_opened c d env g given asks list is Apart f = f
   told_opened c d env g given asks list is Left f = tt
 
-  pub told_result : {F : Type 0} (c d e : Context Key Id Name) (rule : Binder Key (ClausesKey Key))
-      (g given : ClauseKey Key) (clauses asks : List (ClauseKey Key)) → clauses ≡ given ∷ asks →
-      (env : ParamEnvKey Key) → OpensRule c d rule clauses → Extends c.meaning d.meaning →
-      Extends d.meaning e.meaning → IsLater d.store e.store → IsTrue (known ((c.meaning).clause g)) →
-      IsTrue (known ((c.meaning).param_env env)) → (result : Result (Candidate Key) F) →
-      IfOk result (TellsOpened d e env g given asks) → IfOk result (TellsCandidate c env rule g e)
-  told_result c d e rule g given clauses asks is env o grown grown_on later known_g known_env (Ok x) f =
-      told c d e rule g given clauses asks is env o grown grown_on later known_g known_env x f
-  told_result c d e rule g given clauses asks is env o grown grown_on later known_g known_env (Err f) h = tt
+  -- So may the second one.
+  pub second_may : (c d : Context Key Id Name) (rule : KeyedRule Key) (given clause : ClauseKey Key)
+      (clauses others asks : List (ClauseKey Key)) → clauses ≡ given ∷ others → others ≡ clause ∷ asks →
+      OpensRule c d rule clauses → MayAsk d clause
+  second_may c d rule given clause clauses others asks is then o =
+      let opened = subst (OpensRule c d rule) (is ∙ ap (λ z. given ∷ z) then) o in
+      let second = λ (P : ClauseKey Key → Type 0) (h : All P (given ∷ clause ∷ asks)).
+      All-head P clause asks (All-tail P given (clause ∷ asks) h) in
+      record {
+        is_known = second (λ k. IsTrue (known ((d.meaning).clause k))) opened.are_known;
+        is_in = second (λ k. IsTermIn d.store ((d.meaning).clause k)) opened.are_in;
+        taken = second (λ k. IsWellBound ((d.meaning).clause k)) opened.are_taken;
+      }

@@ -12,7 +12,6 @@ use Rattle.relation_terms.specs.declared.predicate.trait_ref.TraitPredicate.{Tra
 use Rattle.relation_terms.specs.declared.terms.binder.Binder.{Binder}
 use Rattle.relation_terms.specs.declared.terms.keys.BoundVarsKey.{BoundVarsKey}
 use Rattle.relation_terms.specs.declared.terms.keys.ClauseKey.{ClauseKey}
-use Rattle.relation_terms.specs.declared.terms.keys.ClausesKey.{ClausesKey}
 use Rattle.relation_terms.specs.Heads.{BoundKind, trait_clause, projection}
 use Rattle.relation_terms.specs.Trees.{Tree, node, nil, cons, list_tree, known}
 use Rattle.relation_terms.specs.Meaning.{Meaning, under}
@@ -23,6 +22,7 @@ use Rattle.relation_semantics.specs.Stores.{Store, InContext, IsTermIn}
 use Rattle.may_relate.specs.declared.unfit.Unfit.{Unfit}
 use Rattle.may_relate.specs.declared.unfit.Unfit.TheVariants.{Memory}
 use Rattle.may_relate.specs.Fitting.{MayBeRelated}
+use Rattle.relation_proving.specs.declared.opening.KeyedRule.{KeyedRule}
 use Rattle.relation_proving.proofs.OpenedRules.{each_known}
 use Rattle.relation_proving.specs.RuleTerms.{KnowsRule, rule_tree}
 use Rattle.relation_proving.specs.Checking.{IsOfTraitOrItem, IsProvable, AreProvable, IsProvableGoal, IsProvablePart, IsProvableRule}
@@ -208,36 +208,36 @@ module _ {Key Id Name : Type 0} where
         (parts_of_list ks (record { provable = (h.provable).1; stands = rest_related c.store o t ts h.stands }))
 
   -- A rule, whose clauses these are.
-  module _ (c : Context Key Id Name) (k : Binder Key (ClausesKey Key)) (ks : List (ClauseKey Key))
-      (e : (c.meaning).clauses k.value ≡ list_tree (c.meaning).clause ks) where
-    pub rule_of_parts : KnowsRule c k → All (IsProvablePart c k.bound_vars) ks → IsProvableRule c k
+  module _ (c : Context Key Id Name) (k : KeyedRule Key) (ks : List (ClauseKey Key))
+      (e : (c.meaning).clauses (k.clauses).value ≡ list_tree (c.meaning).clause ks) where
+    pub rule_of_parts : KnowsRule c k → All (IsProvablePart c (k.clauses).bound_vars) ks → IsProvableRule c k
     rule_of_parts h parts =
-        let i = (under_known ((c.meaning).bound_vars k.bound_vars) ((c.meaning).clauses k.value) h).0 in
-        let l = list_of_parts c k.bound_vars i ks parts in
-        let q = subst (λ t. MayBeRelated c.store (under ((c.meaning).bound_vars k.bound_vars) t)) (sym e) l.stands in
+        let i = (under_known ((c.meaning).bound_vars (k.clauses).bound_vars) ((c.meaning).clauses (k.clauses).value) h).0 in
+        let l = list_of_parts c (k.clauses).bound_vars i ks parts in
+        let q = subst (λ t. MayBeRelated c.store (under ((c.meaning).bound_vars (k.clauses).bound_vars) t)) (sym e) l.stands in
         record {
           provable = subst (AreProvable c.meaning) (sym e) l.provable;
           may = record { is_known = h; taken = q.1; is_in = q.0 };
         }
 
-    pub parts_of_rule : IsProvableRule c k → All (IsProvablePart c k.bound_vars) ks
-    parts_of_rule r = parts_of_list c k.bound_vars ks (record {
+    pub parts_of_rule : IsProvableRule c k → All (IsProvablePart c (k.clauses).bound_vars) ks
+    parts_of_rule r = parts_of_list c (k.clauses).bound_vars ks (record {
       provable = subst (AreProvable c.meaning) e r.provable;
-      stands = subst (λ t. MayBeRelated c.store (under ((c.meaning).bound_vars k.bound_vars) t)) e
+      stands = subst (λ t. MayBeRelated c.store (under ((c.meaning).bound_vars (k.clauses).bound_vars) t)) e
           ((r.may).is_in, (r.may).taken);
     })
 
-  pub clauses_known : (m : Meaning Key Id Name) (k : Binder Key (ClausesKey Key)) → IsTrue (known (rule_tree m k)) →
-      IsTrue (known (m.clauses k.value))
-  clauses_known m k h = (under_known (m.bound_vars k.bound_vars) (m.clauses k.value) h).1
+  pub clauses_known : (m : Meaning Key Id Name) (k : KeyedRule Key) → IsTrue (known (rule_tree m k)) →
+      IsTrue (known (m.clauses (k.clauses).value))
+  clauses_known m k h = (under_known (m.bound_vars (k.clauses).bound_vars) (m.clauses (k.clauses).value) h).1
 
-  pub list_known : (m : Meaning Key Id Name) (k : Binder Key (ClausesKey Key)) → IsTrue (known (rule_tree m k)) →
-      IsSome (m.bound_vars k.bound_vars)
-  list_known m k h = (under_known (m.bound_vars k.bound_vars) (m.clauses k.value) h).0
+  pub list_known : (m : Meaning Key Id Name) (k : KeyedRule Key) → IsTrue (known (rule_tree m k)) →
+      IsSome (m.bound_vars (k.clauses).bound_vars)
+  list_known m k h = (under_known (m.bound_vars (k.clauses).bound_vars) (m.clauses (k.clauses).value) h).0
 
   -- Each clause of a known rule is known.
-  pub part_at : (m : Meaning Key Id Name) (k : Binder Key (ClausesKey Key)) (xs : List (ClauseKey Key)) (i : ℕ)
-      (x : ClauseKey Key) → IsTrue (known (rule_tree m k)) → m.clauses k.value ≡ list_tree m.clause xs →
+  pub part_at : (m : Meaning Key Id Name) (k : KeyedRule Key) (xs : List (ClauseKey Key)) (i : ℕ)
+      (x : ClauseKey Key) → IsTrue (known (rule_tree m k)) → m.clauses (k.clauses).value ≡ list_tree m.clause xs →
       i < length xs → x ≡ get_or xs i x → IsTrue (known (m.clause x))
   part_at m k xs i x h e l is = subst (λ (z : ClauseKey Key). IsTrue (known (m.clause z))) (sym is)
       (All-get_or (λ (z : ClauseKey Key). IsTrue (known (m.clause z))) xs i x l

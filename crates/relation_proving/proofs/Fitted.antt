@@ -8,15 +8,18 @@ use Rattle.relation_terms.specs.declared.predicate.trait_ref.TraitPredicate.{Tra
 use Rattle.relation_terms.specs.declared.terms.keys.ClauseKey.{ClauseKey}
 use Rattle.relation_terms.specs.declared.terms.keys.ParamEnvKey.{ParamEnvKey}
 use Rattle.relation_semantics.specs.Contexts.{Context, KnowsEnv}
+use Rattle.relation_semantics.specs.Stores.{IsSound}
 use Rattle.type_relations.specs.Contract.{CanRelate}
 use Rattle.relation_proving.specs.Bodies.{IsBodyOf, AreOfOneItem, AreSaid}
 use Rattle.relation_proving.specs.Candidates.{MayAsk, MayFit, TellsClauses}
 use Rattle.relation_proving.specs.Fitting.{TellsFit}
+use Rattle.relation_proving.specs.Shadowing.{TellsTraits}
 use Rattle.relation_proving.specs.declared.comparing.Bodies.TheVariants.{OfTrait, OfItem, OfTwo}
 use Rattle.relation_proving.specs.declared.fitting.Fitting.{Fitting}
 use Rattle.relation_proving.specs.declared.fitting.Fitting.TheVariants.{Apart}
 use Rattle.relation_proving.proofs.Meeting.{trait_tree, item_tree, traits_may, traits_result, item_may, says_in}
 use Rattle.relation_proving.proofs.Meeting.{clauses_tell, two_are_apart}
+use Rattle.relation_proving.proofs.Beside.{beside_result}
 
 module _ {Key Id Name : Type 0} (c : Context Key Id Name) (e : ParamEnvKey Key) (k g : ClauseKey Key)
     (asked : MayAsk c k) (given : MayAsk c g) where
@@ -36,6 +39,11 @@ module _ {Key Id Name : Type 0} (c : Context Key Id Name) (e : ParamEnvKey Key) 
     traits_told d result h = clauses_tell c d e k g (Trait a) (Trait b) first_trait second_trait result
         (traits_result c d e a b (says_in c k (Trait a) first_trait asked) (says_in c g (Trait b) second_trait given)
         result h)
+
+    -- What that tells where the first is what the environment has.
+    pub traits_beside : {F : Type 0} (d : Context Key Id Name) → IsSound d.store → (result : Result Fitting F) →
+        IfOk result (TellsFit c d None trait_tree e a b) → IfOk result (TellsTraits c k g)
+    traits_beside d sound result h = beside_result c d e k g a b first_trait second_trait sound result h
 
   module _ (a b : ProjectionPredicate Key Id) (s : AreSaid c.meaning k g (OfItem a b)) where
     first_item : IsBodyOf c.meaning k (Projection a)

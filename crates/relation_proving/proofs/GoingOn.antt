@@ -4,9 +4,7 @@ use Rattle.std.proofs.Common.{get_or, arith, Option, Some, None}
 use Rattle.std.specs.Prelude.{IfSome}
 use Rattle.std.specs.List.{AllZip}
 use Rattle.std.proofs.lemmas.List.Elements.{All-head, All-tail}
-use Rattle.relation_terms.specs.declared.terms.binder.Binder.{Binder}
 use Rattle.relation_terms.specs.declared.terms.keys.ClauseKey.{ClauseKey}
-use Rattle.relation_terms.specs.declared.terms.keys.ClausesKey.{ClausesKey}
 use Rattle.relation_terms.specs.declared.terms.keys.ParamEnvKey.{ParamEnvKey}
 use Rattle.relation_terms.specs.Trees.{known, Leaves}
 use Rattle.relation_terms.specs.Meaning.{Meaning, Extends}
@@ -22,6 +20,7 @@ use Rattle.relation_semantics.proofs.Standing.{later_term}
 use Rattle.kept_records.specs.Records.{SameRecord}
 use Rattle.relation_solver.specs.Rules.{Rule}
 use Rattle.kept_records.proofs.Kept.{same_through}
+use Rattle.relation_proving.specs.declared.opening.KeyedRule.{KeyedRule}
 use Rattle.relation_proving.specs.RuleTerms.{IsRule, IsRuleOf, rule_tree}
 use Rattle.relation_proving.specs.Candidates.{MayAsk, IsFirstOrderAt, IsFirstOrderClause, IsFirstOrderRule}
 use Rattle.relation_proving.specs.RuleTerms.{MayUse}
@@ -77,18 +76,19 @@ module _ {Key Id Name : Type 0} where
   }
 
   -- A goal that is named stays known.
-  pub blame_on : (c d : Context Key Id Name) → Extends c.meaning d.meaning → (ks : List (Binder Key (ClausesKey Key)))
+  pub blame_on : (c d : Context Key Id Name) → Extends c.meaning d.meaning → (ks : List (KeyedRule Key))
       (b : Option (Blame Key)) → IfSome b (KnowsBlame c ks) → IfSome b (KnowsBlame d ks)
   blame_on c d e ks None h = tt
   blame_on c d e ks (Some b) h = record { is_known = knows_clause e b.goal h.is_known; is_asked = h.is_asked }
 
-  rule_stays : (m n : Meaning Key Id Name) → Extends m n → (k : Binder Key (ClausesKey Key)) →
+  rule_stays : (m n : Meaning Key Id Name) → Extends m n → (k : KeyedRule Key) →
       IsTrue (known (rule_tree m k)) → rule_tree n k ≡ rule_tree m k
-  rule_stays m n e k h = under_stays (m.bound_vars k.bound_vars) (n.bound_vars k.bound_vars) (m.clauses k.value)
-      (n.clauses k.value) (e.bound_vars k.bound_vars) (e.clauses k.value) h
+  rule_stays m n e k h = under_stays (m.bound_vars (k.clauses).bound_vars) (n.bound_vars (k.clauses).bound_vars)
+      (m.clauses (k.clauses).value) (n.clauses (k.clauses).value) (e.bound_vars (k.clauses).bound_vars)
+      (e.clauses (k.clauses).value) h
 
   module _ (c d : Context Key Id Name) (g : GoesOn c d) where
-    pub use_on : (k : Binder Key (ClausesKey Key)) → MayUse c k → MayUse d k
+    pub use_on : (k : KeyedRule Key) → MayUse c k → MayUse d k
     use_on k h =
         let same = rule_stays c.meaning d.meaning g.grown k h.is_known in
         record {
@@ -98,10 +98,10 @@ module _ {Key Id Name : Type 0} where
               (g.later).universe_stands (rule_tree c.meaning k) h.is_in);
         }
 
-    pub uses_on : (ks : List (Binder Key (ClausesKey Key))) → All (MayUse c) ks → All (MayUse d) ks
+    pub uses_on : (ks : List (KeyedRule Key)) → All (MayUse c) ks → All (MayUse d) ks
     uses_on ks h = λ i x l. use_on _ (h i x l)
 
-    pub proves_on : (ks : List (Binder Key (ClausesKey Key))) (e : ParamEnvKey Key) → MayProve c ks e → MayProve d ks e
+    pub proves_on : (ks : List (KeyedRule Key)) (e : ParamEnvKey Key) → MayProve c ks e → MayProve d ks e
     proves_on ks e h = record {
       lawful = g.lawful;
       env_known = knows_param_env g.grown e h.env_known;
@@ -122,19 +122,19 @@ module _ {Key Id Name : Type 0} where
         All (λ k. IsFirstOrderClause (goal_tree c k)) ks → All (λ k. IsFirstOrderClause (goal_tree d k)) ks
     goals_first_order ks h f = λ i x l. subst IsFirstOrderClause (sym (goal_stays _ (h i x l))) (f i x l)
 
-    pub rule_on : (k : Binder Key (ClausesKey Key)) (r : Rule) → MayUse c k → IsRuleOf c k r → IsRuleOf d k r
+    pub rule_on : (k : KeyedRule Key) (r : Rule) → MayUse c k → IsRuleOf c k r → IsRuleOf d k r
     rule_on k r h f =
         let same = rule_stays c.meaning d.meaning g.grown k h.is_known in
         record {
           closed = subst (Leaves IsValueLeaf) (sym same) f.closed;
-          is_rule = subst (λ t. IsRule t r) (sym same) f.is_rule;
+          is_rule = subst (λ t. IsRule k.kind t r) (sym same) f.is_rule;
         }
 
-    pub rule_first_order : (k : Binder Key (ClausesKey Key)) (r : Rule) → MayUse c k → IsFirstOrderRule c k r →
+    pub rule_first_order : (k : KeyedRule Key) (r : Rule) → MayUse c k → IsFirstOrderRule c k r →
         IsFirstOrderRule d k r
     rule_first_order k r h f = record { rule = rule_on k r h f.rule; clauses = f.clauses }
 
-    pub rules_on : (ks : List (Binder Key (ClausesKey Key))) (rs : List Rule) → All (MayUse c) ks →
+    pub rules_on : (ks : List (KeyedRule Key)) (rs : List Rule) → All (MayUse c) ks →
         AllZip (IsRuleOf c) ks rs → AllZip (IsRuleOf d) ks rs
     rules_on [] [] h f = tt
     rules_on (k ∷ ks) (r ∷ rs) h f =
@@ -142,7 +142,7 @@ module _ {Key Id Name : Type 0} where
     rules_on [] (r ∷ rs) h f = absurd f
     rules_on (k ∷ ks) [] h f = absurd f
 
-    rules_first_order : (ks : List (Binder Key (ClausesKey Key))) (rs : List Rule) → All (MayUse c) ks →
+    rules_first_order : (ks : List (KeyedRule Key)) (rs : List Rule) → All (MayUse c) ks →
         AllZip (IsFirstOrderRule c) ks rs → AllZip (IsFirstOrderRule d) ks rs
     rules_first_order [] [] h f = tt
     rules_first_order (k ∷ ks) (r ∷ rs) h f = (
@@ -152,24 +152,24 @@ module _ {Key Id Name : Type 0} where
     rules_first_order [] (r ∷ rs) h f = absurd f
     rules_first_order (k ∷ ks) [] h f = absurd f
 
-    pub exact_on : (ks : List (Binder Key (ClausesKey Key))) (u : ℕ) (rs : List Rule) → All (MayUse c) ks →
+    pub exact_on : (ks : List (KeyedRule Key)) (u : ℕ) (rs : List Rule) → All (MayUse c) ks →
         IsFirstOrderAt u d.store → IsExact u c ks rs → IsExact u d ks rs
     exact_on ks u rs h s f = record { store = s; rules = rules_first_order ks rs h f.rules }
 
   -- What is recorded again is first-order as it was.
-  pub exact_back : (c d : Context Key Id Name) → IsBack c d → (ks : List (Binder Key (ClausesKey Key))) (u : ℕ)
+  pub exact_back : (c d : Context Key Id Name) → IsBack c d → (ks : List (KeyedRule Key)) (u : ℕ)
       (rs : List Rule) → All (MayUse c) ks → IsExact u c ks rs → IsExact u d ks rs
   exact_back c d b ks u rs h f = exact_on c d (back_goes c d b) ks u rs h
       (subst (IsFirstOrderAt u) (sym (b.same).store) f.store) f
 
   -- Rules of a later context are rules of the earlier one.
   module _ (c d : Context Key Id Name) (g : GoesOn c d) where
-    rule_before : (k : Binder Key (ClausesKey Key)) (r : Rule) → MayUse c k → IsRuleOf d k r → IsRuleOf c k r
+    rule_before : (k : KeyedRule Key) (r : Rule) → MayUse c k → IsRuleOf d k r → IsRuleOf c k r
     rule_before k r h f =
         let same = rule_stays c.meaning d.meaning g.grown k h.is_known in
-        record { closed = subst (Leaves IsValueLeaf) same f.closed; is_rule = subst (λ t. IsRule t r) same f.is_rule }
+        record { closed = subst (Leaves IsValueLeaf) same f.closed; is_rule = subst (λ t. IsRule k.kind t r) same f.is_rule }
 
-    pub rules_before : (ks : List (Binder Key (ClausesKey Key))) (rs : List Rule) → All (MayUse c) ks →
+    pub rules_before : (ks : List (KeyedRule Key)) (rs : List Rule) → All (MayUse c) ks →
         AllZip (IsRuleOf d) ks rs → AllZip (IsRuleOf c) ks rs
     rules_before [] [] h f = tt
     rules_before (k ∷ ks) (r ∷ rs) h f =
@@ -177,7 +177,7 @@ module _ {Key Id Name : Type 0} where
     rules_before [] (r ∷ rs) h f = absurd f
     rules_before (k ∷ ks) [] h f = absurd f
 
-    first_order_rules_before : (ks : List (Binder Key (ClausesKey Key))) (rs : List Rule) → All (MayUse c) ks →
+    first_order_rules_before : (ks : List (KeyedRule Key)) (rs : List Rule) → All (MayUse c) ks →
         AllZip (IsFirstOrderRule d) ks rs → AllZip (IsFirstOrderRule c) ks rs
     first_order_rules_before [] [] h f = tt
     first_order_rules_before (k ∷ ks) (r ∷ rs) h f = (
@@ -188,7 +188,7 @@ module _ {Key Id Name : Type 0} where
     first_order_rules_before (k ∷ ks) [] h f = absurd f
 
     -- What is exact was so before, in the universe of then.
-    pub exact_before : (ks : List (Binder Key (ClausesKey Key))) (u : ℕ) (rs : List Rule) → All (MayUse c) ks →
+    pub exact_before : (ks : List (KeyedRule Key)) (u : ℕ) (rs : List Rule) → All (MayUse c) ks →
         IsExact u d ks rs → IsExact (c.store).universe c ks rs
     exact_before ks u rs h f = record {
       store = record { bindings = first_order_before c.store d.store g.later (f.store).bindings; universe = refl };

@@ -3,8 +3,11 @@ pub mod Fits
 pub mod Unbound
 pub mod Said
 pub mod Meeting
+pub mod Beside
 pub mod Fitted
 pub mod Candidates
+pub mod Held
+pub mod Trying
 pub mod GoingOn
 pub mod Answering
 pub mod OneValue

@@ -2,31 +2,30 @@
 use Rattle.std.proofs.Common.{List, []}
 use Rattle.std.specs.Prelude.{IfOk, Result, Ok, Err}
 use Rattle.std.proofs.lemmas.List.Elements.{All-nil}
-use Rattle.relation_terms.specs.declared.terms.binder.Binder.{Binder}
 use Rattle.relation_terms.specs.declared.terms.keys.ClauseKey.{ClauseKey}
-use Rattle.relation_terms.specs.declared.terms.keys.ClausesKey.{ClausesKey}
 use Rattle.relation_terms.specs.declared.terms.keys.ParamEnvKey.{ParamEnvKey}
-use Rattle.relation_terms.specs.Trees.{Leaves}
 use Rattle.relation_semantics.specs.Contexts.{Context}
 use Rattle.relation_semantics.specs.Goals.{Holds}
 use Rattle.relation_semantics.specs.Lawful.{items_of}
-use Rattle.relation_semantics.specs.Relation.{IsValueLeaf}
 use Rattle.relation_semantics.proofs.Standing.{term_context}
 use Rattle.relation_solver.specs.Solving.{YesIsSound, YesIsPrincipal, NoMeansNone, ProofsDerive, ProofsDeriveBy}
 use Rattle.relation_solver.proofs.Deriving.{proved_by_one}
+use Rattle.relation_proving.specs.declared.opening.KeyedRule.{KeyedRule}
 use Rattle.relation_proving.specs.Answers.{YesDerives, YesIsBy, YesMakesFollow, YesLosesNone, NoFollowsNever}
 use Rattle.relation_proving.specs.Answers.{YesStaysFirstOrder, NoNamesKnown, LeavesNothing}
 use Rattle.relation_proving.specs.Candidates.{MayAsk}
+use Rattle.relation_proving.specs.RuleTerms.{held_of}
 use Rattle.relation_proving.specs.Telling.{goal_tree, rule_at, TellsGoal}
 use Rattle.relation_proving.specs.declared.told.Told.{Told}
 use Rattle.relation_proving.specs.declared.told.Told.TheVariants.{Yes, No, Maybe}
+use Rattle.relation_proving.proofs.Held.{held_closed, exact_closed}
 
-module _ {Key Id Name F : Type 0} (c d : Context Key Id Name) (ks : List (Binder Key (ClausesKey Key)))
+module _ {Key Id Name F : Type 0} (c d : Context Key Id Name) (ks : List (KeyedRule Key))
     (e : ParamEnvKey Key) (g : ClauseKey Key) where
   pub derives : ProofsDerive → (result : Result (Told Key) F) → IfOk result (TellsGoal c d ks e g) →
       YesDerives c d ks g e result
-  derives law (Ok (Yes i)) t = λ rs x w s h. law (items_of c.meaning) ((c.meaning).param_env e) (d.store).universe [] rs
-      [] c.store d.store (goal_tree c g) (All-nil (Leaves IsValueLeaf)) (proved_by_one (t.2 rs x)) w s h
+  derives law (Ok (Yes i)) t = λ rs x w s h. law (items_of c.meaning) ((c.meaning).param_env e) (d.store).universe (held_of ks rs) rs
+      [] c.store d.store (goal_tree c g) (held_closed c ks rs x) (proved_by_one (t.2 rs x)) w s h
       (All-nil (Holds (items_of c.meaning) w s))
   derives law (Ok (No named)) t = tt
   derives law (Ok (Maybe why)) t = tt
@@ -35,8 +34,8 @@ module _ {Key Id Name F : Type 0} (c d : Context Key Id Name) (ks : List (Binder
   pub is_by : ProofsDeriveBy → (result : Result (Told Key) F) → IfOk result (TellsGoal c d ks e g) → YesIsBy c d ks g e result
   is_by law (Ok (Yes i)) t = (
     t.0,
-    λ rs x w s h. law (items_of c.meaning) ((c.meaning).param_env e) (d.store).universe [] rs [] c.store d.store
-        (rule_at rs i) (goal_tree c g) (All-nil (Leaves IsValueLeaf)) (t.2 rs x) w s h
+    λ rs x w s h. law (items_of c.meaning) ((c.meaning).param_env e) (d.store).universe (held_of ks rs) rs [] c.store d.store
+        (rule_at rs i) (goal_tree c g) (held_closed c ks rs x) (t.2 rs x) w s h
         (All-nil (Holds (items_of c.meaning) w s)),
   )
   is_by law (Ok (No named)) t = tt
@@ -45,16 +44,16 @@ module _ {Key Id Name F : Type 0} (c d : Context Key Id Name) (ks : List (Binder
 
   pub makes_follow : YesIsSound → (result : Result (Told Key) F) → IfOk result (TellsGoal c d ks e g) →
       YesMakesFollow c d ks g result
-  makes_follow law (Ok (Yes i)) t = λ rs x f s h. law (c.store).universe [] rs c.store d.store (goal_tree c g)
-      (All-nil (Leaves IsValueLeaf)) (t.1 (c.store).universe rs x f).did s h
+  makes_follow law (Ok (Yes i)) t = λ rs x f s h. law (c.store).universe (held_of ks rs) rs c.store d.store (goal_tree c g)
+      (exact_closed c (c.store).universe ks rs x) (t.1 (c.store).universe rs x f).did s h
   makes_follow law (Ok (No named)) t = tt
   makes_follow law (Ok (Maybe why)) t = tt
   makes_follow law (Err f) t = tt
 
   pub loses_none : YesIsPrincipal → MayAsk c g → (result : Result (Told Key) F) → IfOk result (TellsGoal c d ks e g) →
       YesLosesNone c d ks g result
-  loses_none law a (Ok (Yes i)) t = λ rs x f s h k. law (c.store).universe [] rs c.store d.store (goal_tree c g)
-      (All-nil (Leaves IsValueLeaf)) (term_context c.store (goal_tree c g) a.is_in)
+  loses_none law a (Ok (Yes i)) t = λ rs x f s h k. law (c.store).universe (held_of ks rs) rs c.store d.store (goal_tree c g)
+      (exact_closed c (c.store).universe ks rs x) (term_context c.store (goal_tree c g) a.is_in)
       (t.1 (c.store).universe rs x f).did s h k
   loses_none law a (Ok (No named)) t = tt
   loses_none law a (Ok (Maybe why)) t = tt
@@ -63,8 +62,8 @@ module _ {Key Id Name F : Type 0} (c d : Context Key Id Name) (ks : List (Binder
   pub follows_never : NoMeansNone → MayAsk c g → (result : Result (Told Key) F) → IfOk result (TellsGoal c d ks e g) →
       NoFollowsNever c d ks g result
   follows_never law a (Ok (Yes i)) t = tt
-  follows_never law a (Ok (No named)) t = λ rs x f s h k. law (c.store).universe [] rs c.store (goal_tree c g)
-      (All-nil (Leaves IsValueLeaf)) (term_context c.store (goal_tree c g) a.is_in) (t.1 (c.store).universe rs x f) s h k
+  follows_never law a (Ok (No named)) t = λ rs x f s h k. law (c.store).universe (held_of ks rs) rs c.store (goal_tree c g)
+      (exact_closed c (c.store).universe ks rs x) (term_context c.store (goal_tree c g) a.is_in) (t.1 (c.store).universe rs x f) s h k
   follows_never law a (Ok (Maybe why)) t = tt
   follows_never law a (Err f) t = tt
 

@@ -1,11 +1,10 @@
 -- A rule that was opened: its clauses, and the variables that they were opened by.
-use Rattle.std.proofs.Common.{◌≡◌, ℕ, List, [], ◌∷◌, refl, sym, ◌∙◌, ap, ap₂, subst, map, All, Option, Some, None}
+use Rattle.std.proofs.Common.{◌≡◌, ℕ, List, [], ◌∷◌, ◌++◌, refl, sym, ◌∙◌, ap, ap₂, subst, map, All, Option, Some, None}
 use Rattle.std.proofs.Common.{IsTrue}
 use Rattle.std.specs.Prelude.{IfOk, Result, Ok, Err}
 use Rattle.std.specs.Global.{Vec}
 use Rattle.std.proofs.lemmas.Bool.{and_parts}
-use Rattle.std.proofs.lemmas.List.Elements.{All-nil, All-cons, All-head, All-tail, All-same}
-use Rattle.relation_terms.specs.declared.terms.binder.Binder.{Binder}
+use Rattle.std.proofs.lemmas.List.Elements.{All-nil, All-cons, All-head, All-tail}
 use Rattle.relation_terms.specs.declared.terms.keys.ClauseKey.{ClauseKey}
 use Rattle.relation_terms.specs.declared.terms.keys.ClausesKey.{ClausesKey}
 use Rattle.relation_terms.specs.Heads.{BoundKind}
@@ -22,6 +21,7 @@ use Rattle.relation_semantics.specs.Stores.{Store, InContext, IsTermIn, IsSound}
 use Rattle.relation_semantics.proofs.Standing.{term_context}
 use Rattle.relation_solver.specs.Rules.{Rule}
 use Rattle.relation_solver.specs.Traces.{Opens}
+use Rattle.relation_proving.specs.declared.opening.KeyedRule.{KeyedRule}
 use Rattle.relation_proving.specs.RuleTerms.{IsRule, rule_tree, TakesRule, HasRule, IsClosedRule, OpensRule}
 
 -- A list of terms as a tree: putting terms for what a binder binds, and what the tree is a list of.
@@ -36,6 +36,25 @@ list_same f [] [] e = refl
 list_same f [] (t ∷ ts) e = absurd cc
 list_same f (k ∷ ks) [] e = absurd cc
 list_same f (k ∷ ks) (t ∷ ts) e = ap₂ (λ a b. a ∷ b) (first_path e) (list_same f ks ts (rest_path e))
+
+-- What holds of all of two lists, one behind the other, holds of all of each; and of their images.
+pub all_left : {X : Type 0} (P : X → Type 0) (xs ys : List X) → All P (xs ++ ys) → All P xs
+all_left P [] ys h = All-nil P
+all_left P (x ∷ xs) ys h = All-cons P x xs (All-head P x (xs ++ ys) h) (all_left P xs ys (All-tail P x (xs ++ ys) h))
+
+pub all_right : {X : Type 0} (P : X → Type 0) (xs ys : List X) → All P (xs ++ ys) → All P ys
+all_right P [] ys h = h
+all_right P (x ∷ xs) ys h = all_right P xs ys (All-tail P x (xs ++ ys) h)
+
+pub images_left : (f : Tree → Tree) (P : Tree → Type 0) (xs ys : List Tree) → All P (map f (xs ++ ys)) →
+    All (λ x. P (f x)) xs
+images_left f P [] ys h = All-nil (λ x. P (f x))
+images_left f P (x ∷ xs) ys h = All-cons (λ x. P (f x)) x xs (All-head P (f x) (map f (xs ++ ys)) h)
+    (images_left f P xs ys (All-tail P (f x) (map f (xs ++ ys)) h))
+
+pub images_right : (f : Tree → Tree) (P : Tree → Type 0) (xs ys : List Tree) → All P (map f (xs ++ ys)) → All P (map f ys)
+images_right f P [] ys h = h
+images_right f P (x ∷ xs) ys h = images_right f P xs ys (All-tail P (f x) (map f (xs ++ ys)) h)
 
 -- What holds of such a tree holds of each of the list.
 module _ {K : Type 0} (f : K → Tree) where
@@ -89,46 +108,47 @@ module _ {Key Id Name : Type 0} (opens : InstantiatingEachOpens) (body_in : Inst
     well_bound = body_binds c.store d.store ks t x f w.1;
   }
 
-  module _ (c d : Context Key Id Name) (r : Binder Key (ClausesKey Key)) (x : ClausesKey Key)
+  module _ (c d : Context Key Id Name) (r : KeyedRule Key) (x : ClausesKey Key)
       (f : InstantiatesAs c d (rule_tree c.meaning r) ((d.meaning).clauses x)) (g : IsSound c.store)
       (has : HasRule c r) (taken : TakesRule c r) where
     b : Body c.store d.store ((d.meaning).clauses x)
-    b = body c d ((c.meaning).bound_vars r.bound_vars) ((c.meaning).clauses r.value) ((d.meaning).clauses x) f g has taken
+    b = body c d ((c.meaning).bound_vars (r.clauses).bound_vars) ((c.meaning).clauses (r.clauses).value) ((d.meaning).clauses x) f g has taken
 
     pub rule_later : IsLater c.store d.store
     rule_later = b.later
 
     module _ (cs : List (ClauseKey Key)) (is_known : IsTrue (known ((d.meaning).clauses x)))
         (listed : (d.meaning).clauses x ≡ list_tree (d.meaning).clause cs) where
-      by_variables : IsClosedRule c r → (rule : Rule) → IsRule (rule_tree c.meaning r) rule → (vars : List Tree) ×
-          Opens (c.store).universe c.store d.store rule vars ×
-          (map (d.meaning).clause cs ≡ map (inst vars 0) (rule.gives ∷ rule.asks))
+      by_variables : IsClosedRule c r → (rule : Rule) → IsRule r.kind (rule_tree c.meaning r) rule →
+          (vars : List Tree) × Opens (c.store).universe c.store d.store rule vars ×
+          (map (d.meaning).clause cs ≡ map (inst vars 0) (rule.gives ∷ (rule.shadowed_by ++ rule.asks)))
       by_variables closed rule is =
-          let p : InstantiatesAs c d (bind rule.binds (cons rule.gives (list_tree (λ z. z) rule.asks)))
+          let others = rule.shadowed_by ++ rule.asks in
+          let p : InstantiatesAs c d (bind rule.binds (cons rule.gives (list_tree (λ z. z) others)))
           ((d.meaning).clauses x) = subst (λ t. InstantiatesAs c d t ((d.meaning).clauses x)) is.clauses f in
-          let o = opens c.store d.store rule.binds (cons rule.gives (list_tree (λ z. z) rule.asks))
+          let o = opens c.store d.store rule.binds (cons rule.gives (list_tree (λ z. z) others))
           ((d.meaning).clauses x) p g in
           let vs = o.variables in
-          let body_is : (d.meaning).clauses x ≡ list_tree (λ z. z) (map (inst vs 0) (rule.gives ∷ rule.asks)) =
-          o.body_is ∙ ap (cons (inst vs 0 rule.gives)) (list_opened vs 0 rule.asks) in
-          let all_in = in_contexts d.store (map (inst vs 0) (rule.gives ∷ rule.asks))
+          let body_is : (d.meaning).clauses x ≡ list_tree (λ z. z) (map (inst vs 0) (rule.gives ∷ others)) =
+          o.body_is ∙ ap (cons (inst vs 0 rule.gives)) (list_opened vs 0 others) in
+          let all_in = in_contexts d.store (map (inst vs 0) (rule.gives ∷ others))
           (subst (IsTermIn d.store) body_is b.is_in) in
-          let all_closed = each_closed (λ z. z) (rule.gives ∷ rule.asks)
-          (subst (Leaves IsValueLeaf) is.clauses closed) in (
+          let all_closed = each_closed (λ z. z) (rule.gives ∷ others)
+          (subst (Leaves IsValueLeaf) is.clauses closed) in
+          let others_in = All-tail (InContext d.store) (inst vs 0 rule.gives) (map (inst vs 0) others) all_in in
+          let others_closed = All-tail (Leaves IsValueLeaf) rule.gives others all_closed in (
             vs,
             record {
               sound = g;
               makes = o.makes;
-              gives_in = All-head (InContext d.store) (inst vs 0 rule.gives) (map (inst vs 0) rule.asks) all_in;
-              asks_in = All-tail (InContext d.store) (inst vs 0 rule.gives) (map (inst vs 0) rule.asks) all_in;
-              shadows_in = All-same (λ t. InContext d.store (inst vs 0 t)) rule.shadowed_by [] is.shadowed_by_none
-                  (All-nil (λ t. InContext d.store (inst vs 0 t)));
-              gives_closed = All-head (Leaves IsValueLeaf) rule.gives rule.asks all_closed;
-              asks_closed = All-tail (Leaves IsValueLeaf) rule.gives rule.asks all_closed;
-              shadows_closed = All-same (Leaves IsValueLeaf) rule.shadowed_by [] is.shadowed_by_none
-                  (All-nil (Leaves IsValueLeaf));
+              gives_in = All-head (InContext d.store) (inst vs 0 rule.gives) (map (inst vs 0) others) all_in;
+              asks_in = images_right (inst vs 0) (InContext d.store) rule.shadowed_by rule.asks others_in;
+              shadows_in = images_left (inst vs 0) (InContext d.store) rule.shadowed_by rule.asks others_in;
+              gives_closed = All-head (Leaves IsValueLeaf) rule.gives others all_closed;
+              asks_closed = all_right (Leaves IsValueLeaf) rule.shadowed_by rule.asks others_closed;
+              shadows_closed = all_left (Leaves IsValueLeaf) rule.shadowed_by rule.asks others_closed;
             },
-            list_same (d.meaning).clause cs (map (inst vs 0) (rule.gives ∷ rule.asks)) (sym listed ∙ body_is),
+            list_same (d.meaning).clause cs (map (inst vs 0) (rule.gives ∷ others)) (sym listed ∙ body_is),
           )
 
       opens_rule : OpensRule c d r cs

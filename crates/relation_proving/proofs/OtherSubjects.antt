@@ -1,12 +1,11 @@
 -- A rule that gives another trait or item than a goal asks for.
-use Rattle.std.proofs.Common.{◌≡◌, ◌∙◌, ℕ, List, [], ◌∷◌, refl, sym, ap, subst, Option, Some, None, IsSome, IsTrue}
+use Rattle.std.proofs.Common.{◌≡◌, ◌∙◌, ℕ, List, [], ◌∷◌, ◌++◌, refl, sym, ap, subst, Option, Some, None, IsSome, IsTrue}
 use Rattle.std.proofs.lemmas.Bool.{false≢true, and_parts}
 use Rattle.term_enums.specs.declared.PredicatePolarity.{PredicatePolarity}
 use Rattle.relation_terms.specs.declared.predicate.kinds.ClauseKind.{ClauseKind}
 use Rattle.relation_terms.specs.declared.predicate.kinds.ClauseKind.TheVariants.{Trait, Projection}
 use Rattle.relation_terms.specs.declared.terms.binder.Binder.{Binder}
 use Rattle.relation_terms.specs.declared.terms.keys.ClauseKey.{ClauseKey}
-use Rattle.relation_terms.specs.declared.terms.keys.ClausesKey.{ClausesKey}
 use Rattle.relation_terms.specs.Erasure.{erase}
 use Rattle.relation_terms.specs.Heads.{BoundKind, AliasTermKind, trait_ref, trait_clause, projection, alias_term}
 use Rattle.relation_terms.specs.Trees.{Tree, node, bind, nil, cons, list_tree, known, inst, Assign, apply}
@@ -18,6 +17,7 @@ use Rattle.relation_semantics.specs.Outcomes.{NoUnifier}
 use Rattle.relation_semantics.specs.Stores.{Store}
 use Rattle.relation_solver.specs.Rules.{Rule}
 use Rattle.relation_solver.proofs.Bodies.{bodies_unify}
+use Rattle.relation_proving.specs.declared.opening.KeyedRule.{KeyedRule}
 use Rattle.relation_proving.specs.RuleTerms.{IsRule, rule_tree}
 use Rattle.relation_proving.specs.Subjects.{AreOfTwo, GivesAnother}
 
@@ -94,7 +94,7 @@ first_given None ks t u us v vs e f = absurd cc
 
 module _ {Key Id Name : Type 0} (m : Meaning Key Id Name) where
   -- A goal that is of another than what a rule gives is no instance of it.
-  pub apart_by_subject : (r : Binder Key (ClausesKey Key)) (g : ClauseKey Key) (a : GivesAnother m r g) →
+  pub apart_by_subject : (r : KeyedRule Key) (g : ClauseKey Key) (a : GivesAnother m r g) →
       IsTrue (known (m.clause g)) → (s : Assign) (xs : List Tree) →
       erase (apply s (m.clause g)) ≡ erase (inst xs 0 (m.clause a.given)) → ⊥
   apart_by_subject r g a h s xs e =
@@ -110,8 +110,8 @@ module _ {Key Id Name : Type 0} (m : Meaning Key Id Name) where
   bodies_apart st q p two s h u = two_apart m q p (apply s (clause_kind_tree m q)) (apply s (clause_kind_tree m p)) two
       (over_value m q s) (over_value m p s) (bodies_unify s (clause_kind_tree m q) (clause_kind_tree m p) u)
 
-  pub another_given : (r : Binder Key (ClausesKey Key)) (g given : ClauseKey Key) (xs ys : List (ClauseKey Key))
-      (b f : Binder Key (ClauseKind Key Id Name)) → m.clauses r.value ≡ list_tree m.clause xs → xs ≡ given ∷ ys →
+  pub another_given : (r : KeyedRule Key) (g given : ClauseKey Key) (xs ys : List (ClauseKey Key))
+      (b f : Binder Key (ClauseKind Key Id Name)) → m.clauses (r.clauses).value ≡ list_tree m.clause xs → xs ≡ given ∷ ys →
       m.clause given ≡ clause_tree m b → m.clause g ≡ clause_tree m f → AreOfTwo m f.value b.value →
       GivesAnother m r g
   another_given r g given xs ys b f e i gives asks two = record {
@@ -130,11 +130,11 @@ module _ {Key Id Name : Type 0} (m : Meaning Key Id Name) where
   first_known xs ys given h e = (and_parts (known (m.clause given)) (known (list_tree m.clause ys))
       (subst (λ z. IsTrue (known (list_tree m.clause z))) e h)).0
 
-  pub given_known : (r : Binder Key (ClausesKey Key)) → IsTrue (known (rule_tree m r)) →
-      IsTrue (known (m.clauses r.value))
-  given_known r h = (under_known (m.bound_vars r.bound_vars) (m.clauses r.value) h).1
+  pub given_known : (r : KeyedRule Key) → IsTrue (known (rule_tree m r)) →
+      IsTrue (known (m.clauses (r.clauses).value))
+  given_known r h = (under_known (m.bound_vars (r.clauses).bound_vars) (m.clauses (r.clauses).value) h).1
 
-  pub gives_is : (k : Binder Key (ClausesKey Key)) (g : ClauseKey Key) (r : Rule) → IsRule (rule_tree m k) r →
+  pub gives_is : (k : KeyedRule Key) (g : ClauseKey Key) (r : Rule) → IsRule k.kind (rule_tree m k) r →
       (a : GivesAnother m k g) → r.gives ≡ m.clause a.given
-  gives_is k g r is a = first_given (m.bound_vars k.bound_vars) r.binds (m.clauses k.value) r.gives
-      (list_tree (λ x. x) r.asks) (m.clause a.given) a.others is.clauses a.clauses
+  gives_is k g r is a = first_given (m.bound_vars (k.clauses).bound_vars) r.binds (m.clauses (k.clauses).value) r.gives
+      (list_tree (λ x. x) (r.shadowed_by ++ r.asks)) (m.clause a.given) a.others is.clauses a.clauses

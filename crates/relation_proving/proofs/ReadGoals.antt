@@ -3,9 +3,7 @@ use Rattle.std.proofs.Common.{◌≡◌, ℕ, List, [], sym, ◌∙◌, ap, subs
 use Rattle.std.specs.Prelude.{is_some}
 use Rattle.std.specs.Option.{unwrap_or}
 use Rattle.std.proofs.lemmas.Bool.{true≢false}
-use Rattle.relation_terms.specs.declared.terms.binder.Binder.{Binder}
 use Rattle.relation_terms.specs.declared.terms.keys.ClauseKey.{ClauseKey}
-use Rattle.relation_terms.specs.declared.terms.keys.ClausesKey.{ClausesKey}
 use Rattle.relation_terms.specs.declared.terms.keys.ParamEnvKey.{ParamEnvKey}
 use Rattle.relation_terms.specs.Erasure.{erase}
 use Rattle.relation_terms.specs.Heads.{projection, alias_term, arguments}
@@ -23,8 +21,9 @@ use Rattle.relation_semantics.proofs.Standing.{term_context}
 use Rattle.relation_semantics.proofs.StoreCalls.{resolved_resolves, resolved_in}
 use Rattle.relation_solver.specs.Rules.{Rule, Meets, DerivesBy}
 use Rattle.relation_solver.specs.Traces.{Did, goal, yes, no, HasOneValue, read_yes, read_no, IsReadOf, ProvesBy, by_opening, was_by}
+use Rattle.relation_proving.specs.declared.opening.KeyedRule.{KeyedRule}
 use Rattle.relation_proving.specs.Candidates.{MayAsk, IsFirstOrderBody, IsFirstOrderClause}
-use Rattle.relation_proving.specs.RuleTerms.{MayUse}
+use Rattle.relation_proving.specs.RuleTerms.{held_of, MayUse}
 use Rattle.relation_proving.specs.Telling.{IsBack, IsExact, ComesToGoal, ComesToOne, goal_tree, rule_at, TellsGoal, IsProvedBy}
 use Rattle.relation_proving.specs.declared.told.Told.{Told}
 use Rattle.relation_proving.specs.declared.told.Told.TheVariants.{Yes, No, Maybe}
@@ -49,10 +48,10 @@ module _ (st : Store) (g : IsSound st) (simple : IsFirstOrderStore st) where
   clause_comes t f = absurd f
 
 -- What was proved by a rule of one of two terms that have the same values was of the other.
-proved_read : (its : Items) (env : Tree) (u : ℕ) (rs : List Rule) (before : Store) (t t' : Tree) →
+proved_read : (its : Items) (env : Tree) (u : ℕ) (held : List Tree) (rs : List Rule) (before : Store) (t t' : Tree) →
     ((w : Interpretation) (s : Assign) → Satisfies w before s → apply s t ≡ apply s t') → (after : Store) (r : Rule) →
-    ProvesBy its env u [] rs [] before after r t → ProvesBy its env u [] rs [] before after r t'
-proved_read its env u rs before t t' same after r (by_opening _ _ _ p) = by_opening after r t' (record {
+    ProvesBy its env u held rs [] before after r t → ProvesBy its env u held rs [] before after r t'
+proved_read its env u held rs before t t' same after r (by_opening _ _ _ p) = by_opening after r t' (record {
   there = p.there;
   opened = p.opened;
   middle = p.middle;
@@ -66,8 +65,8 @@ proved_read its env u rs before t t' same after r (by_opening _ _ _ p) = by_open
   stands = p.stands;
   asks = p.asks;
 })
-proved_read its env u rs before t t' same after r (was_by _ _ f) =
-    was_by r t' (λ w s h. subst (DerivesBy its w env u [] rs r) (same w s h) (f w s h))
+proved_read its env u held rs before t t' same after r (was_by _ _ f) =
+    was_by r t' (λ w s h. subst (DerivesBy its w env u held rs r) (same w s h) (f w s h))
 
 module _ {Key Id Name : Type 0} where
   -- It is read as itself, or as what it comes to.
@@ -112,7 +111,7 @@ module _ {Key Id Name : Type 0} where
   read_one c d g (Some x) h k e enough q i = subst (λ z. HasOneValue d.store (goal_tree d z)) (sym e) h.one
   read_one c d g None h k e enough q i = absurd (true≢false (sym i ∙ q))
 
-  module _ (c d e : Context Key Id Name) (b : IsBack c d) (ks : List (Binder Key (ClausesKey Key)))
+  module _ (c d e : Context Key Id Name) (b : IsBack c d) (ks : List (KeyedRule Key))
       (env : ParamEnvKey Key) (known_env : KnowsEnv c env) (uses : All (MayUse c) ks) (g k : ClauseKey Key)
       (r : ComesToGoal c d g k) where
     exact_then : (u : ℕ) (rs : List Rule) → IsExact u c ks rs → IsExact u d ks rs
@@ -126,11 +125,11 @@ module _ {Key Id Name : Type 0} where
     }
 
     proved_then : (rs : List Rule) (q : Rule) → IsProvedBy d e ks env rs q k → IsProvedBy c e ks env rs q g
-    proved_then rs q h = proved_read (items_of c.meaning) ((c.meaning).param_env env) (e.store).universe rs c.store
+    proved_then rs q h = proved_read (items_of c.meaning) ((c.meaning).param_env env) (e.store).universe (held_of ks rs) rs c.store
         (goal_tree d k) (goal_tree c g) r.same_value e.store q
-        (subst (λ z. ProvesBy (items_of c.meaning) ((c.meaning).param_env env) (e.store).universe [] rs [] z e.store q
+        (subst (λ z. ProvesBy (items_of c.meaning) ((c.meaning).param_env env) (e.store).universe (held_of ks rs) rs [] z e.store q
         (goal_tree d k)) (b.same).store
-        (subst₂ (λ x y. ProvesBy x y (e.store).universe [] rs [] d.store e.store q (goal_tree d k))
+        (subst₂ (λ x y. ProvesBy x y (e.store).universe (held_of ks rs) rs [] d.store e.store q (goal_tree d k))
         (items_stay b.grown) ((b.grown).param_env env known_env) h))
 
     pub read_tells : (told : Told Key) → TellsGoal d e ks env k told → TellsGoal c e ks env g told
@@ -140,7 +139,7 @@ module _ {Key Id Name : Type 0} where
           let s = t.1 u rs (exact_then u rs x) (r.first_order (x.store).bindings f) in
           record {
             did = read_yes c.store e.store (goal_tree c g) (goal_tree d k) is_read
-                (subst (λ z. Did u [] rs z (goal (goal_tree d k)) (yes e.store)) (b.same).store s.did);
+                (subst (λ z. Did u (held_of ks rs) rs z (goal (goal_tree d k)) (yes e.store)) (b.same).store s.did);
             store = s.store;
           },
       λ rs x. proved_then rs (rule_at rs i) (t.2 rs (rules_on c d (back_goes c d b) ks rs uses x)),
@@ -148,7 +147,7 @@ module _ {Key Id Name : Type 0} where
     read_tells (No named) t = (
       back_through c d e b t.0,
       λ u rs x f. read_no c.store (goal_tree c g) (goal_tree d k) is_read
-          (subst (λ z. Did u [] rs z (goal (goal_tree d k)) no) (b.same).store
+          (subst (λ z. Did u (held_of ks rs) rs z (goal (goal_tree d k)) no) (b.same).store
           (t.1 u rs (exact_then u rs x) (r.first_order (x.store).bindings f))),
       t.2,
     )

@@ -6,18 +6,16 @@ use Rattle.std.specs.List.{AllZip}
 use Rattle.std.proofs.lemmas.List.Elements.{All-nil, All-push, All-contains}
 use Rattle.std.proofs.Math.Seq.{take-append_seam}
 use Rattle.delayed_map.specs.Kept.{Finds}
-use Rattle.relation_terms.specs.declared.terms.binder.Binder.{Binder}
 use Rattle.relation_terms.specs.declared.terms.keys.ClauseKey.{ClauseKey}
-use Rattle.relation_terms.specs.declared.terms.keys.ClausesKey.{ClausesKey}
 use Rattle.relation_terms.specs.declared.terms.keys.ParamEnvKey.{ParamEnvKey}
 use Rattle.relation_terms.specs.Interning.{AreEqualAsTrees}
-use Rattle.relation_terms.specs.Trees.{Assign, apply, known, Leaves}
+use Rattle.relation_terms.specs.Trees.{Assign, apply, known}
 use Rattle.relation_terms.proofs.Stays.{knows_clause}
 use Rattle.relation_semantics.specs.Contexts.{Context, KnowsEnv}
 use Rattle.relation_semantics.specs.FirstOrder.{IsErasedSolution}
 use Rattle.relation_semantics.specs.Goals.{Holds}
 use Rattle.relation_semantics.specs.Lawful.{items_of}
-use Rattle.relation_semantics.specs.Relation.{Interpretation, IsValueLeaf}
+use Rattle.relation_semantics.specs.Relation.{Interpretation}
 use Rattle.relation_semantics.specs.Stores.{Satisfies}
 use Rattle.relation_semantics.proofs.Answering.{items_stay}
 use Rattle.relation_semantics.proofs.Shrinking.{solved_before}
@@ -25,16 +23,18 @@ use Rattle.relation_solver.specs.Rules.{Rule, one, Follows, DerivesBy}
 use Rattle.relation_solver.specs.Traces.{was_found, was_by}
 use Rattle.relation_solver.proofs.Deriving.{derived_by_in, follows_in, proofs_derive_by}
 use Rattle.relation_solver.proofs.Solving.{yes_is_sound}
+use Rattle.relation_proving.specs.declared.opening.KeyedRule.{KeyedRule}
 use Rattle.relation_proving.specs.Candidates.{MayAsk, IsFirstOrderClause}
-use Rattle.relation_proving.specs.RuleTerms.{MayUse, IsRuleOf}
+use Rattle.relation_proving.specs.RuleTerms.{held_of, MayUse, IsRuleOf}
 use Rattle.relation_proving.specs.Remembering.{TellsAgain, proved_with, Remembers, RemembersAll, RemembersMore}
 use Rattle.relation_proving.specs.Telling.{GoesOn, IsBack, IsExact, ComesToOne, goal_tree, rule_at, TellsGoal}
 use Rattle.relation_proving.specs.declared.told.Told.{Told}
 use Rattle.relation_proving.specs.declared.told.Told.TheVariants.{Yes, No, Maybe}
 use Rattle.relation_proving.proofs.GoingOn.{rules_before, exact_before}
+use Rattle.relation_proving.proofs.Held.{held_closed, exact_closed}
 use Rattle.relation_proving.proofs.ReadGoals.{read_tells}
 
-module _ {Key Id Name : Type 0} (ks : List (Binder Key (ClausesKey Key))) (env : ParamEnvKey Key) where
+module _ {Key Id Name : Type 0} (ks : List (KeyedRule Key)) (env : ParamEnvKey Key) where
   -- What is remembered stands in a later context.
   module _ (c d : Context Key Id Name) (on : GoesOn c d) (known_env : KnowsEnv c env) (uses : All (MayUse c) ks) where
     one_on : (p : ClauseKey Key × ℕ) → Remembers c ks env p → Remembers d ks env p
@@ -44,15 +44,15 @@ module _ {Key Id Name : Type 0} (ks : List (Binder Key (ClausesKey Key))) (env :
           is_known = knows_clause on.grown p.0 r.is_known;
           place = r.place;
           follows = λ u rs x f s h.
-              subst (λ z. Follows u [] rs (one (apply s z))) (sym same)
-              (subst (λ v. Follows v [] rs (one (apply s (goal_tree c p.0)))) (x.store).universe
+              subst (λ z. Follows u (held_of ks rs) rs (one (apply s z))) (sym same)
+              (subst (λ v. Follows v (held_of ks rs) rs (one (apply s (goal_tree c p.0)))) (x.store).universe
               (follows_in (on.later).universe_stands (r.follows (c.store).universe rs (exact_before c d on ks u rs uses x)
               (subst IsFirstOrderClause same f) s (solved_before c.store d.store on.later s h))));
           derives = λ rs x w s h.
               let before = r.derives rs (rules_before c d on ks rs uses x) w s ((on.later).shrinks w s h) in
-              subst (λ z. DerivesBy (items_of d.meaning) w ((d.meaning).param_env env) (d.store).universe [] rs
+              subst (λ z. DerivesBy (items_of d.meaning) w ((d.meaning).param_env env) (d.store).universe (held_of ks rs) rs
               (rule_at rs p.1) (apply s z)) (sym same)
-              (subst₂ (λ x y. DerivesBy x w y (d.store).universe [] rs (rule_at rs p.1) (apply s (goal_tree c p.0)))
+              (subst₂ (λ x y. DerivesBy x w y (d.store).universe (held_of ks rs) rs (rule_at rs p.1) (apply s (goal_tree c p.0)))
               (sym (items_stay on.grown)) (sym ((on.grown).param_env env known_env))
               (derived_by_in (on.later).universe_stands before));
         }
@@ -69,17 +69,17 @@ module _ {Key Id Name : Type 0} (ks : List (Binder Key (ClausesKey Key))) (env :
           place = t.0;
           follows = λ u rs x f s h.
               let said = t.1 (c.store).universe rs (exact_before c d on ks u rs uses x) (subst IsFirstOrderClause same f) in
-              subst (λ z. Follows u [] rs (one (apply s z))) (sym same)
-              (subst (λ v. Follows v [] rs (one (apply s (goal_tree c g)))) (x.store).universe
-              (follows_in (on.later).universe_stands (yes_is_sound (c.store).universe [] rs c.store d.store
-              (goal_tree c g) (All-nil (Leaves IsValueLeaf)) said.did s h).1));
+              subst (λ z. Follows u (held_of ks rs) rs (one (apply s z))) (sym same)
+              (subst (λ v. Follows v (held_of ks rs) rs (one (apply s (goal_tree c g)))) (x.store).universe
+              (follows_in (on.later).universe_stands (yes_is_sound (c.store).universe (held_of ks rs) rs c.store d.store
+              (goal_tree c g) (exact_closed c (c.store).universe ks rs (exact_before c d on ks u rs uses x)) said.did s h).1));
           derives = λ rs x w s h.
-              subst (λ z. DerivesBy (items_of d.meaning) w ((d.meaning).param_env env) (d.store).universe [] rs
+              subst (λ z. DerivesBy (items_of d.meaning) w ((d.meaning).param_env env) (d.store).universe (held_of ks rs) rs
               (rule_at rs i) (apply s z)) (sym same)
-              (subst₂ (λ x y. DerivesBy x w y (d.store).universe [] rs (rule_at rs i) (apply s (goal_tree c g)))
+              (subst₂ (λ x y. DerivesBy x w y (d.store).universe (held_of ks rs) rs (rule_at rs i) (apply s (goal_tree c g)))
               (sym (items_stay on.grown)) (sym ((on.grown).param_env env known_env))
-              (proofs_derive_by (items_of c.meaning) ((c.meaning).param_env env) (d.store).universe [] rs [] c.store
-              d.store (rule_at rs i) (goal_tree c g) (All-nil (Leaves IsValueLeaf))
+              (proofs_derive_by (items_of c.meaning) ((c.meaning).param_env env) (d.store).universe (held_of ks rs) rs [] c.store
+              d.store (rule_at rs i) (goal_tree c g) (held_closed c ks rs (rules_before c d on ks rs uses x))
               (t.2 rs (rules_before c d on ks rs uses x)) w s h (All-nil (Holds (items_of c.meaning) w s))));
         }
 
@@ -93,12 +93,12 @@ module _ {Key Id Name : Type 0} (ks : List (Binder Key (ClausesKey Key))) (env :
         let same = (equal g f.key may.is_known r.is_known).0 f.same in (
           r.place,
           λ u rs x o. record {
-            did = was_found c.store (goal_tree c g) (λ s h. subst (λ z. Follows u [] rs (one (apply s z))) (sym same)
+            did = was_found c.store (goal_tree c g) (λ s h. subst (λ z. Follows u (held_of ks rs) rs (one (apply s z))) (sym same)
                 (r.follows u rs x (subst IsFirstOrderClause same o) s h));
             store = x.store;
           },
           λ rs x. was_by (rule_at rs i) (goal_tree c g) (λ w s h. subst (λ z. DerivesBy (items_of c.meaning) w
-              ((c.meaning).param_env env) (c.store).universe [] rs (rule_at rs i) (apply s z)) (sym same)
+              ((c.meaning).param_env env) (c.store).universe (held_of ks rs) rs (rule_at rs i) (apply s z)) (sym same)
               (r.derives rs x w s h)),
         )
 

@@ -6,9 +6,7 @@ use Rattle.std.specs.List.{AllZip}
 use Rattle.std.proofs.lemmas.Bool.{true≢false}
 use Rattle.std.proofs.lemmas.List.{take_all, take_more}
 use Rattle.std.proofs.lemmas.List.Elements.{All-get_or, Contains-get_or}
-use Rattle.relation_terms.specs.declared.terms.binder.Binder.{Binder}
 use Rattle.relation_terms.specs.declared.terms.keys.ClauseKey.{ClauseKey}
-use Rattle.relation_terms.specs.declared.terms.keys.ClausesKey.{ClausesKey}
 use Rattle.relation_terms.specs.declared.terms.keys.ParamEnvKey.{ParamEnvKey}
 use Rattle.relation_terms.specs.Trees.{nil}
 use Rattle.relation_terms.specs.Meaning.{Extends}
@@ -23,6 +21,7 @@ use Rattle.relation_solver.specs.Traces.{Did, goal, rule, yes, no, FollowsBy, Pr
 use Rattle.relation_solver.proofs.Going.{AllFail, AllOthersFail, one_more_fails, first_found, one_other_fails, all_fail}
 use Rattle.relation_solver.proofs.Going.{takes_alone}
 use Rattle.kept_records.proofs.Kept.{may_put_back, put_back_is, put_back_means}
+use Rattle.relation_proving.specs.declared.opening.KeyedRule.{KeyedRule}
 use Rattle.relation_proving.specs.declared.told.Blame.{Blame}
 use Rattle.relation_proving.specs.declared.told.Told.{Told}
 use Rattle.relation_proving.specs.declared.told.Told.TheVariants.{Yes}
@@ -33,7 +32,7 @@ use Rattle.relation_proving.specs.declared.searching.Tried.TheVariants.{Follows,
 use Rattle.relation_proving.specs.declared.searching.Search.{Search}
 use Rattle.relation_proving.specs.declared.searching.Search.TheVariants.{Nothing, Found, Stays, Open}
 use Rattle.relation_proving.specs.Candidates.{MayAsk, IsFirstOrderAt, IsFirstOrderClause, IsFirstOrderRule}
-use Rattle.relation_proving.specs.RuleTerms.{MayUse}
+use Rattle.relation_proving.specs.RuleTerms.{MayUse, held_of}
 use Rattle.relation_proving.specs.Telling.{GoesOn, IsBack, IsExact, goal_tree, TellsGoal, TellsRule}
 use Rattle.relation_proving.specs.Telling.{SaysYesBy, IsProvedBy, KnowsBlame, rule_at}
 use Rattle.relation_proving.specs.RuleTerms.{IsRuleOf}
@@ -58,19 +57,19 @@ module _ {S R Key Id Name : Type 0} (state : S → Context Key Id Name) (with_re
     known = extends_on h.known e;
   }
 
-  module _ (c : Context Key Id Name) (ks : List (Binder Key (ClausesKey Key))) (env : ParamEnvKey Key)
+  module _ (c : Context Key Id Name) (ks : List (KeyedRule Key)) (env : ParamEnvKey Key)
       (g : ClauseKey Key) where
     -- By the first n rules it follows by one alone.
     pub record Only (there : S) (n u : ℕ) (rs : List Rule) : Type 0 where
       pub by : Rule
-      pub follows : FollowsBy u [] rs c.store (state there).store by (goal_tree c g)
+      pub follows : FollowsBy u (held_of ks rs) rs c.store (state there).store by (goal_tree c g)
       pub store : IsFirstOrderAt u (state there).store
-      pub others : AllOthersFail u [] rs c.store by (goal_tree c g) (take n rs)
+      pub others : AllOthersFail u (held_of ks rs) rs c.store by (goal_tree c g) (take n rs)
 
     -- What is known of the first n rules.
     abbrev pub TellsSearch : S → ℕ → Search R Key → Type 0
     TellsSearch now n (Nothing named) = IfSome named (KnowsBlame (state now) ks) × ((u : ℕ) (rs : List Rule) →
-        IsExact u c ks rs → IsFirstOrderClause (goal_tree c g) → AllFail u [] rs c.store (goal_tree c g) (take n rs))
+        IsExact u c ks rs → IsFirstOrderClause (goal_tree c g) → AllFail u (held_of ks rs) rs c.store (goal_tree c g) (take n rs))
     TellsSearch now n (Found i r) = (h : HasKept state with_record c now r) × ((u : ℕ) (rs : List Rule) →
         IsExact u c ks rs → IsFirstOrderClause (goal_tree c g) → Only h.where_kept n u rs) × (i < length ks) ×
         ((rs : List Rule) → AllZip (IsRuleOf c) ks rs → IsProvedBy c (state h.where_kept) ks env rs (rule_at rs i) g)
@@ -100,14 +99,14 @@ module _ {S R Key Id Name : Type 0} (state : S → Context Key Id Name) (with_re
     search_back now n enough (Stays i) e s = absurd (true≢false e)
     search_back now n enough (Open why) e s = s.back
 
-    none_fails : (u : ℕ) (rs : List Rule) → AllFail u [] rs c.store (goal_tree c g) (take 0 rs)
+    none_fails : (u : ℕ) (rs : List Rule) → AllFail u (held_of ks rs) rs c.store (goal_tree c g) (take 0 rs)
     none_fails u rs q x = let below : x.0 < 0 = x.1 in absurd (omega (arith, below))
 
     pub search_begins : (now : S) → IsBack c (state now) → Searches now 0 (Nothing None)
     search_begins now b = record { back = b; tells = (tt, λ u rs x f. none_fails u rs) }
 
     -- One rule more.
-    module _ (now then : S) (n : ℕ) (k : Binder Key (ClausesKey Key)) (l : n < length ks) (is : k ≡ get_or ks n k)
+    module _ (now then : S) (n : ℕ) (k : KeyedRule Key) (l : n < length ks) (is : k ≡ get_or ks n k)
         (known_env : KnowsEnv c env) (uses : All (MayUse c) ks) (asked : MayAsk c g) (b : IsBack c (state now))
         (on : GoesOn (state now) (state then)) where
       may_use : MayUse c k
@@ -136,7 +135,7 @@ module _ {S R Key Id Name : Type 0} (state : S → Context Key Id Name) (with_re
 
       fails : (d : Context Key Id Name) (named : Option (Blame Key)) →
           TellsRule (state now) d ks env k g (Refuted named) → (u : ℕ) (rs : List Rule) → IsExact u c ks rs → IsFirstOrderClause (goal_tree c g) →
-          Did u [] rs c.store (rule (rule_at rs n) (goal_tree c g)) no
+          Did u (held_of ks rs) rs c.store (rule (rule_at rs n) (goal_tree c g)) no
       fails d named t u rs x f = (rule_back c (state now) d b ks env known_env uses g asked k may_use (Refuted named) t).0
           u rs (rule_at rs n) x (is_rule u rs x) (in_rules u rs x) f
 
@@ -190,8 +189,8 @@ module _ {S R Key Id Name : Type 0} (state : S → Context Key Id Name) (with_re
                   by = rule_at rs n;
                   follows = p.follows;
                   store = p.store;
-                  others = subst (AllOthersFail v [] rs c.store (rule_at rs n) (goal_tree c g)) (sym (one_more v rs x))
-                      (first_found v [] rs c.store (goal_tree c g) (take n rs) (rule_at rs n) (s.1 v rs x f));
+                  others = subst (AllOthersFail v (held_of ks rs) rs c.store (rule_at rs n) (goal_tree c g)) (sym (one_more v rs x))
+                      (first_found v (held_of ks rs) rs c.store (goal_tree c g) (take n rs) (rule_at rs n) (s.1 v rs x f));
                 },
             l,
             proved (state (t.0).where_kept) t.1,
@@ -201,8 +200,8 @@ module _ {S R Key Id Name : Type 0} (state : S → Context Key Id Name) (with_re
             first_known (KnowsBlame (state then) ks) named again (blame_on (state now) (state then) on.grown ks named s.0)
                 t.1,
             λ v rs x f.
-                subst (AllFail v [] rs c.store (goal_tree c g)) (sym (one_more v rs x))
-                (one_more_fails v [] rs c.store (goal_tree c g) (take n rs) (rule_at rs n) (s.1 v rs x f)
+                subst (AllFail v (held_of ks rs) rs c.store (goal_tree c g)) (sym (one_more v rs x))
+                (one_more_fails v (held_of ks rs) rs c.store (goal_tree c g) (take n rs) (rule_at rs n) (s.1 v rs x f)
                 (fails (state then) again t v rs x f)),
           )
           after (Nothing named) (Unclear why) e s u t = tt
@@ -216,8 +215,8 @@ module _ {S R Key Id Name : Type 0} (state : S → Context Key Id Name) (with_re
                   by = p.by;
                   follows = p.follows;
                   store = p.store;
-                  others = subst (AllOthersFail v [] rs c.store p.by (goal_tree c g)) (sym (one_more v rs x))
-                      (one_other_fails v [] rs c.store (goal_tree c g) (take n rs) p.by (rule_at rs n) p.others
+                  others = subst (AllOthersFail v (held_of ks rs) rs c.store p.by (goal_tree c g)) (sym (one_more v rs x))
+                      (one_other_fails v (held_of ks rs) rs c.store (goal_tree c g) (take n rs) p.by (rule_at rs n) p.others
                       (fails (state then) again t v rs x f));
                 },
             s.2,
@@ -299,8 +298,8 @@ module _ {S R Key Id Name : Type 0} (state : S → Context Key Id Name) (with_re
           TellsGoal c (state (settled with_record now search)) ks env g (told_by search)
       settled_tells (Nothing named) b s = (
         b,
-        λ u rs x f. all_fail u [] rs c.store (goal_tree c g)
-            (subst (AllFail u [] rs c.store (goal_tree c g)) (whole u rs x) (s.1 u rs x f)),
+        λ u rs x f. all_fail u (held_of ks rs) rs c.store (goal_tree c g)
+            (subst (AllFail u (held_of ks rs) rs c.store (goal_tree c g)) (whole u rs x) (s.1 u rs x f)),
         s.0,
       )
       settled_tells (Found i r) b s =
@@ -309,12 +308,12 @@ module _ {S R Key Id Name : Type 0} (state : S → Context Key Id Name) (with_re
             λ u rs x f.
                 let o = s.1 u rs x f in
                 record {
-                  did = subst (λ z. Did u [] rs c.store (goal (goal_tree c g)) (yes z)) (sym same)
-                      (takes_alone u [] rs c.store (state (s.0).where_kept).store o.by (goal_tree c g) o.follows
-                      (subst (AllOthersFail u [] rs c.store o.by (goal_tree c g)) (whole u rs x) o.others));
+                  did = subst (λ z. Did u (held_of ks rs) rs c.store (goal (goal_tree c g)) (yes z)) (sym same)
+                      (takes_alone u (held_of ks rs) rs c.store (state (s.0).where_kept).store o.by (goal_tree c g) o.follows
+                      (subst (AllOthersFail u (held_of ks rs) rs c.store o.by (goal_tree c g)) (whole u rs x) o.others));
                   store = subst (IsFirstOrderAt u) (sym same) o.store;
                 },
-            λ rs x. subst (λ z. ProvesBy (items_of c.meaning) ((c.meaning).param_env env) z.universe [] rs [] c.store z
+            λ rs x. subst (λ z. ProvesBy (items_of c.meaning) ((c.meaning).param_env env) z.universe (held_of ks rs) rs [] c.store z
                 (rule_at rs i) (goal_tree c g)) (sym same) (s.3 rs x),
           )
       settled_tells (Stays i) b s = s
@@ -333,8 +332,8 @@ module _ {S R Key Id Name : Type 0} (state : S → Context Key Id Name) (with_re
             (subst (λ z. TellsGoal c (state z) ks env g (told_by search)) (sym is) (settled_tells search s.back s.tells))
 
   -- A rule was tried, what is recorded then kept if the goal follows by it, and the record put back.
-  module _ (c : Context Key Id Name) (ks : List (Binder Key (ClausesKey Key))) (env : ParamEnvKey Key)
-      (k : Binder Key (ClausesKey Key)) (g : ClauseKey Key) (now then : S) (on : GoesOn c (state now))
+  module _ (c : Context Key Id Name) (ks : List (KeyedRule Key)) (env : ParamEnvKey Key)
+      (k : KeyedRule Key) (g : ClauseKey Key) (now then : S) (on : GoesOn c (state now))
       (grown : Extends (state now).meaning (state then).meaning) where
     pub tried_tells : (told : Verdict Key) (tried : Tried R Key) → TellsRule c (state now) ks env k g told →
         KeepsTold state with_record now told tried → TellsTried state with_record c then ks env k g tried
@@ -365,8 +364,8 @@ module _ {S R Key Id Name : Type 0} (state : S → Context Key Id Name) (with_re
   back_kept now (Untold why) Left h enough c d b = absurd h
 
   -- What is left after a rule was one by which the goal follows, and that is enough.
-  pub left_tells : (c : Context Key Id Name) (now : S) (ks : List (Binder Key (ClausesKey Key)))
-      (env : ParamEnvKey Key) (k : Binder Key (ClausesKey Key)) (g : ClauseKey Key) (enough : Bool) (told : Verdict Key) →
+  pub left_tells : (c : Context Key Id Name) (now : S) (ks : List (KeyedRule Key))
+      (env : ParamEnvKey Key) (k : KeyedRule Key) (g : ClauseKey Key) (enough : Bool) (told : Verdict Key) →
       leaves enough told ≡ true → TellsRule c (state now) ks env k g told →
       IsTrue enough × TellsTried state with_record c now ks env k g Left
   left_tells c now ks env k g enough Proven e t = (e, t)

@@ -2,9 +2,10 @@
 use Rattle.std.proofs.Common.{◌≡◌, ◌∙◌, ◌⊎◌, ◌<◌, ℕ, zero, suc, inl, inr, refl, sym, ap, subst, [], ◌∷◌, List}
 use Rattle.std.proofs.Common.{Option, Some, None, true, false, length, map, arith, ◌==◌}
 use Rattle.std.proofs.lemmas.Bool.{eqb-true, true≢false, false≢true}
-use Rattle.std.specs.Prelude.{IsSome, IsTrue, slice_get}
+use Rattle.std.specs.Prelude.{Bool, IsSome, IsTrue, slice_get}
 use Rattle.relation_terms.specs.declared.predicate.kinds.ClauseKind.{ClauseKind}
 use Rattle.relation_terms.specs.declared.terms.binder.Binder.{Binder}
+use Rattle.relation_terms.specs.declared.terms.keys.BoundVarsKey.{BoundVarsKey}
 use Rattle.relation_terms.specs.declared.terms.keys.ClauseKey.{ClauseKey}
 use Rattle.relation_terms.specs.Heads.{BoundKind, Leaf, variable, bound, placeholder, atom, unknown}
 use Rattle.relation_terms.specs.Trees.{Tree, leaf, node, bind, nil, cons, known}
@@ -41,6 +42,12 @@ unbound_within d (node h ts) w b = unbound_within d ts w b
 unbound_within d (bind ks t) w b = unbound_within (suc d) t w b
 unbound_within d nil w b = tt
 unbound_within d (cons t ts) w b = (unbound_within d t w.0 b.0, unbound_within d ts w.1 b.1)
+
+-- A list that is found empty is that of a binder that binds nothing.
+pub no_kinds : {Key Id Name : Type 0} (m : Meaning Key Id Name) (v : BoundVarsKey Key)
+    (vs : List (BoundVariableKind Name)) → m.bound_vars v ≡ Some (bound_kinds m vs) → (empty : Bool) →
+    empty ≡ (length vs == 0) → IsTrue empty → m.bound_vars v ≡ Some []
+no_kinds m v vs e empty i t = e ∙ list_empty (bound_kind_of m) vs (sym i ∙ t)
 
 pub body_in : (st : Store) (t : Tree) → IsTermIn st (bind [] t) → IsWellBound (bind [] t) → IsTermIn st t
 unfolding IsTermIn InContext

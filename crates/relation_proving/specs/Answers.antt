@@ -12,9 +12,7 @@
 --   LeavesNothing c d ks g result    where it isn't yes, what is recorded is what was
 use Rattle.std.specs.Prelude.{◌<◌, List, [], length, Result, Ok, Err, IfSome}
 use Rattle.std.specs.List.{AllZip}
-use Rattle.relation_terms.specs.declared.terms.binder.Binder.{Binder}
 use Rattle.relation_terms.specs.declared.terms.keys.ClauseKey.{ClauseKey}
-use Rattle.relation_terms.specs.declared.terms.keys.ClausesKey.{ClausesKey}
 use Rattle.relation_terms.specs.declared.terms.keys.ParamEnvKey.{ParamEnvKey}
 use Rattle.relation_terms.specs.Trees.{Assign, apply}
 use Rattle.relation_semantics.specs.Contexts.{Context}
@@ -25,41 +23,43 @@ use Rattle.relation_semantics.specs.Steps.{HasErasedExtension}
 use Rattle.relation_semantics.specs.Stores.{Satisfies}
 use Rattle.kept_records.specs.Records.{SameRecord}
 use Rattle.relation_solver.specs.Rules.{Rule, one, Follows, Derives, DerivesBy}
-use Rattle.relation_proving.specs.RuleTerms.{IsRuleOf}
+use Rattle.relation_proving.specs.declared.opening.KeyedRule.{KeyedRule}
+use Rattle.relation_proving.specs.RuleTerms.{held_of, IsRuleOf}
 use Rattle.relation_proving.specs.Candidates.{IsFirstOrderAt, IsFirstOrderClause}
 use Rattle.relation_proving.specs.Telling.{IsExact, KnowsBlame, goal_tree, rule_at}
 use Rattle.relation_proving.specs.declared.told.Told.{Told}
 use Rattle.relation_proving.specs.declared.told.Told.TheVariants.{Yes, No, Maybe}
 
-module _ {Key Id Name F : Type 0} (c d : Context Key Id Name) (ks : List (Binder Key (ClausesKey Key)))
+module _ {Key Id Name F : Type 0} (c d : Context Key Id Name) (ks : List (KeyedRule Key))
     (g : ClauseKey Key) where
   -- Of any rules without variables: after a yes what satisfies the record satisfied it before, and makes the goal
   -- derived in the environment, by values that the universe can name which is current then.
   abbrev pub YesDerives : ParamEnvKey Key → Result (Told Key) F → Type 0
   YesDerives e (Ok (Yes i)) = (rs : List Rule) → AllZip (IsRuleOf c) ks rs → (w : Interpretation) (s : Assign) →
       Satisfies w d.store s → Satisfies w c.store s ×
-      Derives (items_of c.meaning) w ((c.meaning).param_env e) (d.store).universe [] rs (one (apply s (goal_tree c g)))
+      Derives (items_of c.meaning) w ((c.meaning).param_env e) (d.store).universe (held_of ks rs) rs
+      (one (apply s (goal_tree c g)))
   YesDerives e result = Unit {0}
 
   -- After a yes by the rule at a place, which is one of these, what satisfies the record makes the goal derived by it.
   abbrev pub YesIsBy : ParamEnvKey Key → Result (Told Key) F → Type 0
   YesIsBy e (Ok (Yes i)) = (i < length ks) × ((rs : List Rule) → AllZip (IsRuleOf c) ks rs → (w : Interpretation)
       (s : Assign) → Satisfies w d.store s → DerivesBy (items_of c.meaning) w ((c.meaning).param_env e)
-      (d.store).universe [] rs (rule_at rs i) (apply s (goal_tree c g)))
+      (d.store).universe (held_of ks rs) rs (rule_at rs i) (apply s (goal_tree c g)))
   YesIsBy e result = Unit {0}
 
   -- After a yes each solution was one before, and makes the goal follow.
   abbrev pub YesMakesFollow : Result (Told Key) F → Type 0
   YesMakesFollow (Ok (Yes i)) = (rs : List Rule) → IsExact (c.store).universe c ks rs →
       IsFirstOrderClause (goal_tree c g) → (s : Assign) → IsErasedSolution d.store s →
-      IsErasedSolution c.store s × Follows (c.store).universe [] rs (one (apply s (goal_tree c g)))
+      IsErasedSolution c.store s × Follows (c.store).universe (held_of ks rs) rs (one (apply s (goal_tree c g)))
   YesMakesFollow result = Unit {0}
 
   -- After a yes no solution is lost under which the goal follows: what was bound had to be so.
   abbrev pub YesLosesNone : Result (Told Key) F → Type 0
   YesLosesNone (Ok (Yes i)) = (rs : List Rule) → IsExact (c.store).universe c ks rs →
       IsFirstOrderClause (goal_tree c g) → (s : Assign) → IsErasedSolution c.store s →
-      Follows (c.store).universe [] rs (one (apply s (goal_tree c g))) →
+      Follows (c.store).universe (held_of ks rs) rs (one (apply s (goal_tree c g))) →
       HasErasedExtension c.store s (IsErasedSolution d.store)
   YesLosesNone result = Unit {0}
 
@@ -67,7 +67,7 @@ module _ {Key Id Name F : Type 0} (c d : Context Key Id Name) (ks : List (Binder
   abbrev pub NoFollowsNever : Result (Told Key) F → Type 0
   NoFollowsNever (Ok (No named)) = (rs : List Rule) → IsExact (c.store).universe c ks rs →
       IsFirstOrderClause (goal_tree c g) → (s : Assign) → IsErasedSolution c.store s →
-      Follows (c.store).universe [] rs (one (apply s (goal_tree c g))) → ⊥
+      Follows (c.store).universe (held_of ks rs) rs (one (apply s (goal_tree c g))) → ⊥
   NoFollowsNever result = Unit {0}
 
   -- After a yes what is recorded is first-order still, and the current universe is what it was.

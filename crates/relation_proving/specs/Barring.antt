@@ -5,9 +5,7 @@
 --   BarsClause c a b     of a first-order clause
 --   NeverGives c k g     under no solution a goal is a value of what a rule gives
 use Rattle.std.specs.Prelude.{◌≡◌, ℕ, List, true}
-use Rattle.relation_terms.specs.declared.terms.binder.Binder.{Binder}
 use Rattle.relation_terms.specs.declared.terms.keys.ClauseKey.{ClauseKey}
-use Rattle.relation_terms.specs.declared.terms.keys.ClausesKey.{ClausesKey}
 use Rattle.relation_terms.specs.Erasure.{erase}
 use Rattle.relation_terms.specs.Trees.{Tree, Assign, apply, inst}
 use Rattle.relation_folds.specs.Clashes.{flexible}
@@ -16,6 +14,7 @@ use Rattle.relation_semantics.specs.Contexts.{Context}
 use Rattle.relation_semantics.specs.FirstOrder.{IsFirstOrder, IsFirstOrderStore, IsErasedSolution}
 use Rattle.relation_semantics.specs.Relation.{FitKinds}
 use Rattle.relation_solver.specs.Rules.{Rule}
+use Rattle.relation_proving.specs.declared.opening.KeyedRule.{KeyedRule}
 use Rattle.relation_proving.specs.Candidates.{IsFirstOrderClause, MayTry}
 
 module _ {Key Id Name : Type 0} (c : Context Key Id Name) where
@@ -33,7 +32,7 @@ module _ {Key Id Name : Type 0} (c : Context Key Id Name) where
   BarsClause a b = IsFirstOrderStore c.store → IsFirstOrderClause a → IsNoInstance a b
 
   -- Of a first-order rule, goal and record: under no solution the goal is a value of what the rule gives.
-  abbrev pub NeverGives : Binder Key (ClausesKey Key) → ClauseKey Key → Type 0
+  abbrev pub NeverGives : KeyedRule Key → ClauseKey Key → Type 0
   NeverGives k g = (u : ℕ) (r : Rule) → MayTry c k g u r → (s : Assign) (xs : List Tree) →
       IsErasedSolution c.store s → FitKinds r.binds xs →
       erase (apply s ((c.meaning).clause g)) ≡ erase (inst xs 0 r.gives) → ⊥

@@ -5,20 +5,18 @@
 --   IsFirstOrderAt u st        what is recorded is first-order, the current universe being u
 --   IsFirstOrderRule c k r     a rule is first-order, and this is its tree
 --   MayTry c k g u r           what is asked of a rule and a goal where what is told is exact
---   AsksFor c k g u d r asks   the goal is what the rule gives, if what the rule asks for follows
+--   AsksFor c k g u d held r asks   the goal is what the rule gives, if what the rule asks for follows
 --   GivesNone c k g u r        the goal is nothing that the rule gives
+--   GaveWay c k g u held r     it is, but the rule gave way
 --   AreFirstOrder st a b       two clauses and what is recorded are
 --   ClausesMeet c d e a b      two clauses were made to say one thing
 --   ClausesAreApart st a b     nothing makes two first-order ones one
 --   TellsClauses c d e a b f   what became of two clauses
 --   TellsOpened ..             what is told of a goal and of what an opened rule gives
---   OpensAsking c d e g r asks   a rule was opened, and what it gives is related with the goal
---   TellsCandidate c e k g d x   what is told of a rule that was tried
-use Rattle.std.specs.Prelude.{◌≡◌, ℕ, List, [], ◌∷◌, All, IsTrue, map}
+--   OpensAsking c d e g held r asks   a rule was opened, and what it gives is related with the goal
+use Rattle.std.specs.Prelude.{◌≡◌, ℕ, List, [], ◌∷◌, ◌++◌, All, IsTrue, map}
 use Rattle.std.specs.Global.{Vec}
-use Rattle.relation_terms.specs.declared.terms.binder.Binder.{Binder}
 use Rattle.relation_terms.specs.declared.terms.keys.ClauseKey.{ClauseKey}
-use Rattle.relation_terms.specs.declared.terms.keys.ClausesKey.{ClausesKey}
 use Rattle.relation_terms.specs.declared.terms.keys.ParamEnvKey.{ParamEnvKey}
 use Rattle.relation_terms.specs.Heads.{BoundKind, bound_sort, VarKind, var_sort, variable}
 use Rattle.relation_terms.specs.Heads.{projection, alias_term, arguments}
@@ -30,12 +28,13 @@ use Rattle.relation_semantics.specs.Outcomes.{Exact, NoUnifier}
 use Rattle.relation_semantics.specs.Lawful.{items_of}
 use Rattle.relation_semantics.specs.Stores.{Store, IsTermIn, OnlyShrinks}
 use Rattle.relation_solver.specs.Rules.{Rule}
-use Rattle.relation_solver.specs.Traces.{Opens, MakesMeet}
+use Rattle.relation_solver.specs.Traces.{Opens, MakesMeet, GivesWay, StandsFirst, StandsExactly}
+use Rattle.relation_proving.specs.declared.opening.KeyedRule.{KeyedRule}
 use Rattle.relation_proving.specs.RuleTerms.{IsRuleOf}
 use Rattle.relation_proving.specs.declared.fitting.Fitting.{Fitting}
 use Rattle.relation_proving.specs.declared.fitting.Fitting.TheVariants.{Fits, Apart as ToldApart, Left}
 use Rattle.relation_proving.specs.declared.candidate.Candidate.{Candidate}
-use Rattle.relation_proving.specs.declared.candidate.Candidate.TheVariants.{Asks, Apart, Unclear}
+use Rattle.relation_proving.specs.declared.candidate.Candidate.TheVariants.{Asks, Apart, GivesWay as ToldShadowed, Unclear}
 
 -- What becomes of a rule that asks for these clauses, by what became of the goal and what it gives.
 abbrev pub candidate_by : {Key : Type 0} → Vec (ClauseKey Key) → Fitting → Candidate Key
@@ -114,28 +113,32 @@ module _ {Key Id Name : Type 0} where
       abbrev pub TellsOpened : Candidate Key → Type 0
       TellsOpened (Asks v) = (v.items ≡ asks) × ClausesMeet c d e ((c.meaning).clause g) ((c.meaning).clause given)
       TellsOpened Apart = ClausesAreApart c.store ((c.meaning).clause g) ((c.meaning).clause given)
+      TellsOpened ToldShadowed = ⊥
       TellsOpened Unclear = Unit {0}
 
   -- A rule as a tree, without variables. With variables for what it binds each of its clauses is first-order, under a
   -- binder that binds nothing.
-  pub record IsFirstOrderRule (c : Context Key Id Name) (k : Binder Key (ClausesKey Key)) (r : Rule) : Type 0 where
+  pub record IsFirstOrderRule (c : Context Key Id Name) (k : KeyedRule Key) (r : Rule) : Type 0 where
     pub rule : IsRuleOf c k r
     pub clauses : (vars : List Tree) → AreVariablesFor r.binds vars →
-        All IsFirstOrderClause (map (inst vars 0) (r.gives ∷ r.asks))
+        All IsFirstOrderClause (map (inst vars 0) (r.gives ∷ (r.shadowed_by ++ r.asks)))
 
-  module _ (c : Context Key Id Name) (k : Binder Key (ClausesKey Key)) (g : ClauseKey Key) (u : ℕ) where
+  module _ (c : Context Key Id Name) (k : KeyedRule Key) (g : ClauseKey Key) (u : ℕ) where
     -- The rule, the goal and what is recorded are first-order.
     pub record MayTry (r : Rule) : Type 0 where
       pub store : IsFirstOrderAt u c.store
       pub rule : IsFirstOrderRule c k r
       pub goal : IsFirstOrderClause ((c.meaning).clause g)
 
-    -- It was opened, and what it gives made one with the goal, exactly; these are what it asks for then.
-    pub record AsksFor (d : Context Key Id Name) (r : Rule) (asks : List (ClauseKey Key)) : Type 0 where
+    -- It was opened, and what it gives made one with the goal, exactly; these are what it asks for then, and it doesn't
+    -- give way.
+    pub record AsksFor (d : Context Key Id Name) (held : List Tree) (r : Rule) (asks : List (ClauseKey Key)) :
+        Type 0 where
       pub vars : List Tree
       pub opened : Store
       pub opens : Opens u c.store opened r vars
       pub exact : Exact opened d.store ((c.meaning).clause g) (inst vars 0 r.gives)
+      pub stands : StandsFirst held d.store r vars
       pub asks_are : map (d.meaning).clause asks ≡ map (inst vars 0) r.asks
       pub asks_first_order : All (λ a. IsFirstOrderClause ((d.meaning).clause a)) asks
       pub store : IsFirstOrderAt u d.store
@@ -147,23 +150,24 @@ module _ {Key Id Name : Type 0} where
       pub opens : Opens u c.store opened r vars
       pub none : NoUnifier opened ((c.meaning).clause g) (inst vars 0 r.gives)
 
+    -- It was opened, and what it gives made one with the goal, exactly; but then it gives way.
+    pub record GaveWay (held : List Tree) (r : Rule) : Type 0 where
+      pub vars : List Tree
+      pub opened : Store
+      pub middle : Store
+      pub opens : Opens u c.store opened r vars
+      pub exact : Exact opened middle ((c.meaning).clause g) (inst vars 0 r.gives)
+      pub gives_way : GivesWay held middle r vars
+
   -- A rule was opened, and what satisfies the record then makes the goal and what it gives say one thing; these are what
-  -- it asks for.
-  pub record OpensAsking (c d : Context Key Id Name) (e : ParamEnvKey Key) (g : ClauseKey Key) (r : Rule)
-      (asks : List (ClauseKey Key)) : Type 0 where
+  -- it asks for, and it doesn't give way.
+  pub record OpensAsking (c d : Context Key Id Name) (e : ParamEnvKey Key) (g : ClauseKey Key) (held : List Tree)
+      (r : Rule) (asks : List (ClauseKey Key)) : Type 0 where
     pub vars : List Tree
     pub opened : Store
     pub opens : Opens (c.store).universe c.store opened r vars
     pub relates : MakesMeet (items_of c.meaning) d.store [] ((c.meaning).param_env e) ((c.meaning).clause g)
         (inst vars 0 r.gives)
     pub shrinks : OnlyShrinks opened d.store
+    pub stands : StandsExactly held d.store r vars
     pub asks_are : map (d.meaning).clause asks ≡ map (inst vars 0) r.asks
-
-  -- What became of a rule that was tried for a goal.
-  module _ (c : Context Key Id Name) (e : ParamEnvKey Key) (k : Binder Key (ClausesKey Key)) (g : ClauseKey Key) where
-    abbrev pub TellsCandidate : Context Key Id Name → Candidate Key → Type 0
-    TellsCandidate d (Asks v) = All (MayAsk d) v.items ×
-        ((u : ℕ) (r : Rule) → MayTry c k g u r → AsksFor c k g u d r v.items) ×
-        ((r : Rule) → IsRuleOf c k r → OpensAsking c d e g r v.items)
-    TellsCandidate d Apart = (u : ℕ) (r : Rule) → MayTry c k g u r → GivesNone c k g u r
-    TellsCandidate d Unclear = Unit {0}

@@ -12,12 +12,12 @@ use Rattle.relation_terms.specs.declared.predicate.kinds.ClauseKind.TheVariants.
 use Rattle.relation_terms.specs.declared.terms.binder.Binder.{Binder}
 use Rattle.relation_terms.specs.declared.terms.keys.BoundVarsKey.{BoundVarsKey}
 use Rattle.relation_terms.specs.declared.terms.keys.ClauseKey.{ClauseKey}
-use Rattle.relation_terms.specs.declared.terms.keys.ClausesKey.{ClausesKey}
 use Rattle.relation_terms.specs.Trees.{Tree, nil, cons}
 use Rattle.relation_terms.specs.Meaning.{Meaning, under}
 use Rattle.relation_terms.specs.Predicates.{clause_tree}
 use Rattle.relation_semantics.specs.Contexts.{Context}
 use Rattle.may_relate.specs.Fitting.{MayBeRelated}
+use Rattle.relation_proving.specs.declared.opening.KeyedRule.{KeyedRule}
 use Rattle.relation_proving.specs.Candidates.{MayAsk}
 use Rattle.relation_proving.specs.RuleTerms.{MayUse}
 
@@ -51,6 +51,6 @@ module _ {Key Id Name : Type 0} where
     pub stands : MayBeRelated c.store (under ((c.meaning).bound_vars b) ((c.meaning).clause g))
 
   -- All clauses of a rule are such, and it may be used.
-  pub record IsProvableRule (c : Context Key Id Name) (k : Binder Key (ClausesKey Key)) : Type 0 where
-    pub provable : AreProvable c.meaning ((c.meaning).clauses k.value)
+  pub record IsProvableRule (c : Context Key Id Name) (k : KeyedRule Key) : Type 0 where
+    pub provable : AreProvable c.meaning ((c.meaning).clauses (k.clauses).value)
     pub may : MayUse c k

@@ -5,6 +5,7 @@ pub mod Bodies
 pub mod Candidates
 pub mod Barring
 pub mod Telling
+pub mod Shadowing
 pub mod Searching
 pub mod Remembering
 pub mod Answers

@@ -10,9 +10,7 @@
 use Rattle.std.specs.Prelude.{◌≡◌, ℕ, ◌<◌, Bool, List, [], ◌∷◌, ◌++◌, All, length, Option, Some, None, IsTrue}
 use Rattle.std.specs.List.{AllZip}
 use Rattle.delayed_map.specs.Kept.{Finds}
-use Rattle.relation_terms.specs.declared.terms.binder.Binder.{Binder}
 use Rattle.relation_terms.specs.declared.terms.keys.ClauseKey.{ClauseKey}
-use Rattle.relation_terms.specs.declared.terms.keys.ClausesKey.{ClausesKey}
 use Rattle.relation_terms.specs.declared.terms.keys.ParamEnvKey.{ParamEnvKey}
 use Rattle.relation_terms.specs.Trees.{Assign, apply, known}
 use Rattle.relation_semantics.specs.Contexts.{Context}
@@ -21,7 +19,8 @@ use Rattle.relation_semantics.specs.Lawful.{items_of}
 use Rattle.relation_semantics.specs.Relation.{Interpretation}
 use Rattle.relation_semantics.specs.Stores.{Satisfies}
 use Rattle.relation_solver.specs.Rules.{Rule, one, Follows, DerivesBy}
-use Rattle.relation_proving.specs.RuleTerms.{IsRuleOf}
+use Rattle.relation_proving.specs.declared.opening.KeyedRule.{KeyedRule}
+use Rattle.relation_proving.specs.RuleTerms.{held_of, IsRuleOf}
 use Rattle.relation_proving.specs.Candidates.{IsFirstOrderClause}
 use Rattle.relation_proving.specs.Telling.{MayProve, IsExact, goal_tree, rule_at}
 use Rattle.relation_proving.specs.declared.told.Told.{Told}
@@ -43,7 +42,7 @@ abbrev pub proved_with : {T Key : Type 0} → Option T → Told Key → List (T 
 proved_with (Some g) (Yes i) ps = ps ++ (g, i) ∷ []
 proved_with g told ps = ps
 
-module _ {Key Id Name : Type 0} (c : Context Key Id Name) (ks : List (Binder Key (ClausesKey Key)))
+module _ {Key Id Name : Type 0} (c : Context Key Id Name) (ks : List (KeyedRule Key))
     (e : ParamEnvKey Key) where
   -- Up to erasure a first-order goal follows under each solution; and what satisfies the record makes any goal derived by
   -- the rule.
@@ -51,10 +50,10 @@ module _ {Key Id Name : Type 0} (c : Context Key Id Name) (ks : List (Binder Key
     pub is_known : IsTrue (known (goal_tree c p.0))
     pub place : p.1 < length ks
     pub follows : (u : ℕ) (rs : List Rule) → IsExact u c ks rs → IsFirstOrderClause (goal_tree c p.0) →
-        (s : Assign) → IsErasedSolution c.store s → Follows u [] rs (one (apply s (goal_tree c p.0)))
+        (s : Assign) → IsErasedSolution c.store s → Follows u (held_of ks rs) rs (one (apply s (goal_tree c p.0)))
     pub derives : (rs : List Rule) → AllZip (IsRuleOf c) ks rs → (w : Interpretation) (s : Assign) →
-        Satisfies w c.store s → DerivesBy (items_of c.meaning) w ((c.meaning).param_env e) (c.store).universe [] rs
-        (rule_at rs p.1) (apply s (goal_tree c p.0))
+        Satisfies w c.store s → DerivesBy (items_of c.meaning) w ((c.meaning).param_env e) (c.store).universe
+        (held_of ks rs) rs (rule_at rs p.1) (apply s (goal_tree c p.0))
 
   abbrev pub RemembersAll : List (ClauseKey Key × ℕ) → Type 0
   RemembersAll ps = All Remembers ps

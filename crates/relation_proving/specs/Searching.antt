@@ -14,13 +14,12 @@
 --   settled with_record now search      the context once that is told
 use Rattle.std.specs.Prelude.{◌≡◌, ℕ, ◌<◌, Bool, true, false, not, List, length, get_or, Option, Some}
 use Rattle.std.specs.Prelude.{None, IsTrue}
-use Rattle.relation_terms.specs.declared.terms.binder.Binder.{Binder}
 use Rattle.relation_terms.specs.declared.terms.keys.ClauseKey.{ClauseKey}
-use Rattle.relation_terms.specs.declared.terms.keys.ClausesKey.{ClausesKey}
 use Rattle.relation_terms.specs.declared.terms.keys.ParamEnvKey.{ParamEnvKey}
 use Rattle.relation_terms.specs.Meaning.{Extends}
 use Rattle.relation_semantics.specs.Contexts.{Context}
 use Rattle.kept_records.specs.Records.{IsRecordOf}
+use Rattle.relation_proving.specs.declared.opening.KeyedRule.{KeyedRule}
 use Rattle.relation_proving.specs.Telling.{GoesOn, IsBack, KnowsBlame, TellsYes, TellsNo, TellsRule}
 use Rattle.relation_proving.specs.declared.told.Why.{Why}
 use Rattle.relation_proving.specs.declared.told.Why.TheVariants.{Ambiguous, Depth}
@@ -89,7 +88,7 @@ settled with_record now (Open why) = now
 
 -- What is told of the goals of a list that are asked one after another: one of them was proved or failed, or it isn't
 -- told of any.
-module _ {Key Id Name : Type 0} (c d : Context Key Id Name) (ks : List (Binder Key (ClausesKey Key)))
+module _ {Key Id Name : Type 0} (c d : Context Key Id Name) (ks : List (KeyedRule Key))
     (e : ParamEnvKey Key) (gs : List (ClauseKey Key)) where
   abbrev pub TellsRound : Round Key → Type 0
   TellsRound (Proved i) = (i < length gs) × ((g : ClauseKey Key) × (g ≡ get_or gs i g) × TellsYes c d ks e g)
@@ -126,8 +125,8 @@ module _ {S R Key Id Name : Type 0} (state : S → Context Key Id Name) (with_re
   MaySettle now (Open why) = Unit {0}
 
   -- What is told of a rule: where the goal follows by it, what is recorded then was kept, or is left.
-  module _ (c : Context Key Id Name) (now : S) (ks : List (Binder Key (ClausesKey Key))) (e : ParamEnvKey Key)
-      (k : Binder Key (ClausesKey Key)) (g : ClauseKey Key) where
+  module _ (c : Context Key Id Name) (now : S) (ks : List (KeyedRule Key)) (e : ParamEnvKey Key)
+      (k : KeyedRule Key) (g : ClauseKey Key) where
     abbrev pub TellsTried : Tried R Key → Type 0
     TellsTried (Follows r) = (h : HasKept c now r) × TellsRule c (state h.where_kept) ks e k g Proven
     TellsTried Left = TellsRule c (state now) ks e k g Proven

@@ -9,10 +9,10 @@ use Rattle.relation_terms.specs.declared.predicate.kinds.ClauseKind.TheVariants.
 use Rattle.relation_terms.specs.declared.terms.binder.Binder.{Binder}
 use Rattle.relation_terms.specs.declared.terms.keys.ArgsKey.{ArgsKey}
 use Rattle.relation_terms.specs.declared.terms.keys.ClauseKey.{ClauseKey}
-use Rattle.relation_terms.specs.declared.terms.keys.ClausesKey.{ClausesKey}
 use Rattle.relation_terms.specs.Trees.{Tree, cons}
 use Rattle.relation_terms.specs.Meaning.{Meaning}
 use Rattle.relation_terms.specs.Predicates.{alias_term_id, clause_tree}
+use Rattle.relation_proving.specs.declared.opening.KeyedRule.{KeyedRule}
 
 -- The arguments of the trait or the item of a clause, if it is of one.
 abbrev pub args_of : {Key Id Name : Type 0} → ClauseKind Key Id Name → Option (ArgsKey Key)
@@ -31,10 +31,10 @@ module _ {Key Id Name : Type 0} (m : Meaning Key Id Name) where
   AreOfTwo q p = ⊥
 
   -- The first clause of a rule says something of a trait or an item, and a goal of another.
-  pub record GivesAnother (r : Binder Key (ClausesKey Key)) (g : ClauseKey Key) : Type 0 where
+  pub record GivesAnother (r : KeyedRule Key) (g : ClauseKey Key) : Type 0 where
     pub given : ClauseKey Key
     pub others : Tree
-    pub clauses : m.clauses r.value ≡ cons (m.clause given) others
+    pub clauses : m.clauses (r.clauses).value ≡ cons (m.clause given) others
     pub form : Binder Key (ClauseKind Key Id Name)
     pub gives : m.clause given ≡ clause_tree m form
     pub goal_form : Binder Key (ClauseKind Key Id Name)

@@ -18,9 +18,7 @@
 use Rattle.std.specs.Prelude.{◌≡◌, ℕ, ◌<◌, List, [], All, map, length, get_or, Contains, IfSome, IsTrue, Option, Some}
 use Rattle.std.specs.Prelude.{None}
 use Rattle.std.specs.List.{AllZip}
-use Rattle.relation_terms.specs.declared.terms.binder.Binder.{Binder}
 use Rattle.relation_terms.specs.declared.terms.keys.ClauseKey.{ClauseKey}
-use Rattle.relation_terms.specs.declared.terms.keys.ClausesKey.{ClausesKey}
 use Rattle.relation_terms.specs.declared.terms.keys.ParamEnvKey.{ParamEnvKey}
 use Rattle.relation_terms.specs.Trees.{Tree, nil, known, Assign, apply}
 use Rattle.relation_terms.specs.Meaning.{Extends}
@@ -33,7 +31,8 @@ use Rattle.kept_records.specs.Records.{SameRecord}
 use Rattle.relation_semantics.specs.Lawful.{items_of}
 use Rattle.relation_solver.specs.Rules.{Rule, Asked, given, one, all}
 use Rattle.relation_solver.specs.Traces.{Did, goal, goals, rule, yes, no, HasOneValue, FollowsBy, Proves, ProvesBy}
-use Rattle.relation_proving.specs.RuleTerms.{MayUse, IsRuleOf}
+use Rattle.relation_proving.specs.declared.opening.KeyedRule.{KeyedRule}
+use Rattle.relation_proving.specs.RuleTerms.{held_of, MayUse, IsRuleOf}
 use Rattle.relation_proving.specs.Candidates.{MayAsk, IsFirstOrderAt, IsFirstOrderClause, IsFirstOrderRule}
 use Rattle.relation_proving.specs.declared.told.Blame.{Blame}
 use Rattle.relation_proving.specs.declared.told.Told.{Told}
@@ -47,7 +46,7 @@ rule_at rs n = get_or rs n (given nil)
 
 module _ {Key Id Name : Type 0} where
   -- The context is lawful, its interner knows the environment, and each rule may be used.
-  pub record MayProve (c : Context Key Id Name) (ks : List (Binder Key (ClausesKey Key))) (e : ParamEnvKey Key) :
+  pub record MayProve (c : Context Key Id Name) (ks : List (KeyedRule Key)) (e : ParamEnvKey Key) :
       Type 0 where
     pub lawful : c.lawful
     pub env_known : KnowsEnv c e
@@ -66,13 +65,13 @@ module _ {Key Id Name : Type 0} where
     pub grown : Extends c.meaning d.meaning
 
   -- What is recorded is first-order, and so are the rules, whose trees these are.
-  pub record IsExact (u : ℕ) (c : Context Key Id Name) (ks : List (Binder Key (ClausesKey Key))) (rs : List Rule) :
+  pub record IsExact (u : ℕ) (c : Context Key Id Name) (ks : List (KeyedRule Key)) (rs : List Rule) :
       Type 0 where
     pub store : IsFirstOrderAt u c.store
     pub rules : AllZip (IsFirstOrderRule c) ks rs
 
   -- The goal to which a no is due is known, and one of the rules asked for it.
-  pub record KnowsBlame (d : Context Key Id Name) (ks : List (Binder Key (ClausesKey Key))) (b : Blame Key) :
+  pub record KnowsBlame (d : Context Key Id Name) (ks : List (KeyedRule Key)) (b : Blame Key) :
       Type 0 where
     pub is_known : IsTrue (known ((d.meaning).clause b.goal))
     pub is_asked : b.by < length ks
@@ -99,29 +98,30 @@ module _ {Key Id Name : Type 0} where
     ComesToOne (Some k) = IsOne k
     ComesToOne None = Unit {0}
 
-  module _ (c d : Context Key Id Name) (ks : List (Binder Key (ClausesKey Key))) (e : ParamEnvKey Key) where
+  module _ (c d : Context Key Id Name) (ks : List (KeyedRule Key)) (e : ParamEnvKey Key) where
     -- What is asked was proved from rules without variables, in this environment, and no goal is left.
     abbrev pub IsProved : List Rule → Asked → Type 0
-    IsProved rs q = Proves (items_of c.meaning) ((c.meaning).param_env e) (d.store).universe [] rs [] c.store q d.store
+    IsProved rs q = Proves (items_of c.meaning) ((c.meaning).param_env e) (d.store).universe (held_of ks rs) rs []
+        c.store q d.store
 
     -- A goal was proved so by a rule.
     abbrev pub IsProvedBy : List Rule → Rule → ClauseKey Key → Type 0
-    IsProvedBy rs r g = ProvesBy (items_of c.meaning) ((c.meaning).param_env e) (d.store).universe [] rs [] c.store
-        d.store r (goal_tree c g)
+    IsProvedBy rs r g = ProvesBy (items_of c.meaning) ((c.meaning).param_env e) (d.store).universe (held_of ks rs) rs []
+        c.store d.store r (goal_tree c g)
 
     -- A solver said yes to a goal, and what is recorded stays first-order.
     pub record SaysYes (g : ClauseKey Key) (u : ℕ) (rs : List Rule) : Type 0 where
-      pub did : Did u [] rs c.store (goal (goal_tree c g)) (yes d.store)
+      pub did : Did u (held_of ks rs) rs c.store (goal (goal_tree c g)) (yes d.store)
       pub store : IsFirstOrderAt u d.store
 
     -- The same of all of a list.
     pub record SaysYesToAll (gs : List (ClauseKey Key)) (u : ℕ) (rs : List Rule) : Type 0 where
-      pub did : Did u [] rs c.store (goals (map (goal_tree c) gs)) (yes d.store)
+      pub did : Did u (held_of ks rs) rs c.store (goals (map (goal_tree c) gs)) (yes d.store)
       pub store : IsFirstOrderAt u d.store
 
     -- And of a goal by one rule.
     pub record SaysYesBy (g : ClauseKey Key) (u : ℕ) (rs : List Rule) (r : Rule) : Type 0 where
-      pub follows : FollowsBy u [] rs c.store d.store r (goal_tree c g)
+      pub follows : FollowsBy u (held_of ks rs) rs c.store d.store r (goal_tree c g)
       pub store : IsFirstOrderAt u d.store
 
     -- What is told of a goal that was proved.
@@ -132,7 +132,7 @@ module _ {Key Id Name : Type 0} where
     -- What is told of a goal that failed.
     abbrev pub TellsNo : ClauseKey Key → Type 0
     TellsNo g = (u : ℕ) (rs : List Rule) → IsExact u c ks rs → IsFirstOrderClause (goal_tree c g) →
-        Did u [] rs c.store (goal (goal_tree c g)) no
+        Did u (held_of ks rs) rs c.store (goal (goal_tree c g)) no
 
     -- What is told of a goal. Where it isn't yes, what is recorded is what was.
     abbrev pub TellsGoal : ClauseKey Key → Told Key → Type 0
@@ -148,17 +148,19 @@ module _ {Key Id Name : Type 0} where
         All (λ g. IsFirstOrderClause (goal_tree c g)) gs → SaysYesToAll gs u rs) ×
         ((rs : List Rule) → AllZip (IsRuleOf c) ks rs → IsProved rs (all (map (goal_tree c) gs)))
     TellsAll gs (Refuted named) = ((u : ℕ) (rs : List Rule) → IsExact u c ks rs →
-        All (λ g. IsFirstOrderClause (goal_tree c g)) gs → Did u [] rs c.store (goals (map (goal_tree c) gs)) no) ×
+        All (λ g. IsFirstOrderClause (goal_tree c g)) gs →
+        Did u (held_of ks rs) rs c.store (goals (map (goal_tree c) gs)) no) ×
         IfSome named (KnowsBlame d ks)
     TellsAll gs (Untold why) = Unit {0}
 
     -- What is told of a goal and one of the rules.
-    abbrev pub TellsRule : Binder Key (ClausesKey Key) → ClauseKey Key → Verdict Key → Type 0
+    abbrev pub TellsRule : KeyedRule Key → ClauseKey Key → Verdict Key → Type 0
     TellsRule k g Proven = ((u : ℕ) (rs : List Rule) (r : Rule) → IsExact u c ks rs → IsFirstOrderRule c k r →
         Contains rs r → IsFirstOrderClause (goal_tree c g) → SaysYesBy g u rs r) ×
         ((rs : List Rule) (r : Rule) → AllZip (IsRuleOf c) ks rs → IsRuleOf c k r → Contains rs r →
         IsProvedBy rs r g)
     TellsRule k g (Refuted named) = ((u : ℕ) (rs : List Rule) (r : Rule) → IsExact u c ks rs → IsFirstOrderRule c k r →
-        Contains rs r → IsFirstOrderClause (goal_tree c g) → Did u [] rs c.store (rule r (goal_tree c g)) no) ×
+        Contains rs r → IsFirstOrderClause (goal_tree c g) →
+        Did u (held_of ks rs) rs c.store (rule r (goal_tree c g)) no) ×
         IfSome named (KnowsBlame d ks)
     TellsRule k g (Untold why) = Unit {0}

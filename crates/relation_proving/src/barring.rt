@@ -111,7 +111,7 @@ fn gives_another_form<C: InferCtxtLike>(
     requires goal { MayAsk (C.state ctx.now) goal.now }
     ensures { IsTrue result → NeverGives (C.state ctx.now) rule.now goal.now }
 {
-    match ctx.cx().clauses(&rule.value).split_first() {
+    match ctx.cx().clauses(&rule.clauses.value).split_first() {
         Some((given, _)) => clauses_bar(ctx, goal, given),
         None => false,
     }

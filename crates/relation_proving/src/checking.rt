@@ -86,9 +86,9 @@ fn rule_may_be_used<C: HasVariables>(
     ensures { IfOk result (λ may. IsTrue may ↔ IsProvableRule (C.state ctx.now) rule.now) }
 {
     let cx = ctx.cx();
-    let clauses = cx.clauses(&rule.value);
+    let clauses = cx.clauses(&rule.clauses.value);
     for clause in clauses {
-        if !clause_may_stand(ctx, clause, rule.bound_vars)? {
+        if !clause_may_stand(ctx, clause, rule.clauses.bound_vars)? {
             return Ok(false);
         }
     }

@@ -14,5 +14,6 @@ mod ordering;
 pub mod proving;
 pub mod reading;
 mod searching;
+mod shadowing;
 mod spent;
 mod told;

@@ -7,11 +7,30 @@ ghost use Rattle.relation_proving.specs.RuleTerms.{KnowsRule, TakesRule, HasRule
 
 use relation_laws::laws;
 use relation_semantics::infer_ctxt::InferCtxtLike;
-use relation_terms::terms::{Binder, Clause, Clauses, Interner, Keys, OutOfMemory};
+use relation_terms::terms::{Binder, Clause, Clauses, ClausesKey, Interner, Keys, OutOfMemory};
 
-/// A rule, under a binder of what it binds: the first clause is what it gives, the others what it asks for. An impl is
-/// one, and gives that its trait is implemented.
-pub type RuleOf<I> = Binder<<I as Keys>::Key, Clauses<I>>;
+/// What a rule is beside an environment.
+#[derive(Clone, Copy, PartialEq, Eq)]
+pub enum RuleKind {
+    /// It counts whatever an environment has: such as that an impl implements its trait.
+    Plain,
+    /// It is what the environment has: it binds nothing and asks for nothing.
+    Held,
+    /// It gives way where the environment has what its second clause says, for which it doesn't ask: such as what an impl
+    /// says that an associated type is, where the environment has that the trait is implemented.
+    GivesWay,
+}
+
+/// A rule over keys, under a binder of what it binds: the first clause is what it gives, the others what it asks for. An
+/// impl is one, and gives that its trait is implemented.
+#[derive(Clone, Copy)]
+pub struct KeyedRule<X> {
+    pub clauses: Binder<X, ClausesKey<X>>,
+    pub kind: RuleKind,
+}
+
+/// The same over an interner's keys.
+pub type RuleOf<I> = KeyedRule<<I as Keys>::Key>;
 
 // The clauses of a list, in memory of their own.
 fn listed<I: Interner>(cx: &I, clauses: &Clauses<I>) -> Result<Vec<Clause<I>>, OutOfMemory>
@@ -42,6 +61,6 @@ pub fn open_rule<C: InferCtxtLike>(
     ensures opens { IfOk result (λ v. OpensRule (C.state ctx.old) (C.state ctx.new) rule v.items) }
 {
     laws::opening();
-    let opened = ctx.instantiate_binder_with_infer(rule)?;
+    let opened = ctx.instantiate_binder_with_infer(rule.clauses)?;
     listed(ctx.cx(), &opened)
 }

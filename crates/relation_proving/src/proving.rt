@@ -29,7 +29,7 @@ use relation_solver::laws;
 use relation_terms::terms::{Clause, Interner, Keys, ParamEnv, Span};
 
 /// Whether a goal follows from rules, within a depth: such as impls, and what an environment has, each of its clauses
-/// as a rule that binds nothing and asks for nothing.
+/// as a rule of that kind, that binds nothing and asks for nothing.
 ///
 /// Each rule is opened, and what it gives is related with the goal; what it asks for is proved in turn, at one less
 /// depth, in rounds, what says something of a variable last: what isn't told of a goal is asked again once another was
@@ -41,7 +41,9 @@ use relation_terms::terms::{Clause, Interner, Keys, ParamEnv, Span};
 /// comes, or a goal that relating leaves stands in the way; where the depth is spent, `Maybe(Depth)`, which counts
 /// first. A `No` names the goal that failed in the end, and the rule that asked for it, of the first rule that gives
 /// the goal; it names none where no rule does. An alias stands for itself, but where a goal or a rule says to what it
-/// comes.
+/// comes. A rule that gives way, as what an impl says that an associated type is, is none where the environment has the
+/// clause to which it does, that the trait is implemented, of the same arguments; where variables leave open whether it
+/// has it, it is `Maybe(Ambiguous)`.
 ///
 /// The interner has to know the environment, the rules and the goal, whose binders bind by their lists; their variables
 /// and placeholders are the context's. Where no variable stands in a rule, each assignment that satisfies what is
@@ -220,9 +222,10 @@ fn follows_by<C: KeepsRecord>(
     ensures remembers { let d = C.state ctx.new in
         IfOk result (λ r. RemembersMore d rules.now param_env asked.old asked.new) }
 {
-    match try_rule(ctx, param_env, rule, goal, span)? {
+    match try_rule(ctx, rules, param_env, rule, goal, span)? {
         Candidate::Asks(asks) => all_follow(ctx, rules, param_env, asks, place, depth, span, asked),
         Candidate::Apart => Ok(Verdict::Refuted(None)),
+        Candidate::GivesWay => Ok(Verdict::Refuted(None)),
         Candidate::Unclear => Ok(Verdict::Untold(Why::Ambiguous)),
     }
 }

@@ -125,7 +125,7 @@ pub(crate) fn gives_another<I: Interner>(cx: &I, rule: &RuleOf<I>, goal: &Clause
     requires goal_known { IsTrue (known ((I.meaning cx.now).clause goal.now)) }
     ensures { IsTrue result → GivesAnother (I.meaning cx.now) rule.now goal.now }
 {
-    match cx.clauses(&rule.value).split_first() {
+    match cx.clauses(&rule.clauses.value).split_first() {
         Some((given, _)) => {
             let gives = cx.clause_kind(given);
             let asks = cx.clause_kind(goal);

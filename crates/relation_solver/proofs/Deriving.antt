@@ -16,8 +16,7 @@ use Rattle.relation_solver.specs.Traces.{OpensBy, ProvesBy, by_opening, was_by}
 use Rattle.relation_solver.specs.Solving.{ProofsDerive, ProofsDeriveBy}
 use Rattle.relation_solver.proofs.Alike.{images_without}
 use Rattle.relation_solver.proofs.Opened.{opened_value, opened_values}
-use Rattle.relation_solver.proofs.Shadows.{unshadowed}
-use Rattle.relation_semantics.proofs.Erased.{solves_erased}
+use Rattle.relation_solver.proofs.Shadows.{exactly_unshadowed}
 
 -- A later universe names what an earlier one does.
 names_more : (v u : ℕ) → v ≤ u → (ts : List Tree) → AllNamable v ts → AllNamable u ts
@@ -109,7 +108,7 @@ module _ (c : Items) (e : Tree) (u : ℕ) (held : List Tree) (rules : List Rule)
           fit = variables_fit before p.opened s p.universe r.binds p.vars at_opening.assigns o.makes.are_new;
           namable = names_more p.universe u p.is_named xs
               (variables_namable before p.opened s p.universe r.binds p.vars at_opening.assigns o.makes.are_new);
-          stands = unshadowed p.universe held closed p.middle r p.vars o p.stands s (solves_erased w p.middle s a.0);
+          stands = exactly_unshadowed p.universe held closed p.middle r p.vars o p.stands w s a.0;
           meets = subst (λ t. Meets c w e (apply s g) t)
               (opened_value s p.vars xs r.gives o.gives_closed refl) (p.relates w s a.0 holds);
           asks = subst (λ z. Derives c w e u held rules (all z))

@@ -1,5 +1,5 @@
 -- What a solver has done of a list of goals, or of the rules for one, as it goes.
-use Rattle.std.proofs.Common.{◌≡◌, ℕ, ◌<◌, List, [], ◌∷◌, ◌++◌, ◌⊎◌, sym, inl, inr, subst, map, arith}
+use Rattle.std.proofs.Common.{◌≡◌, ℕ, List, [], ◌∷◌, ◌++◌, ◌⊎◌, sym, inl, inr, subst, map}
 use Rattle.std.specs.Prelude.{Contains}
 use Rattle.std.proofs.lemmas.List.Elements.{Contains-push_cases}
 use Rattle.relation_terms.specs.Trees.{Tree, inst}
@@ -8,8 +8,8 @@ use Rattle.relation_semantics.specs.Stores.{Store}
 use Rattle.relation_semantics.specs.Outcomes.{Exact, NoUnifier}
 use Rattle.relation_solver.specs.Rules.{Rule}
 use Rattle.relation_solver.specs.Traces.{Without, goal, goals, rule, rest, Answer, yes, no, Did, did_none, did_next}
-use Rattle.relation_solver.specs.Traces.{no_rule, same_rule, other_rule, no_first, no_later, no_fit, no_asks, took_alone}
-use Rattle.relation_solver.specs.Traces.{Opens, StandsFirst, FollowsBy}
+use Rattle.relation_solver.specs.Traces.{no_rule, same_rule, other_rule, no_first, no_later, no_fit, no_stand, no_asks, took_alone}
+use Rattle.relation_solver.specs.Traces.{Opens, StandsFirst, GivesWay, FollowsBy}
 
 module _ (u : ℕ) (held : List Tree) (rules : List Rule) where
   -- Whatever it answers to the goals that are left, in the record as it is then, it answers to all.
@@ -70,19 +70,17 @@ module _ (u : ℕ) (held : List Tree) (rules : List Rule) where
       AllOthersFail before r g rules → Did u held rules before (goal g) (yes after)
   takes_alone before after r g f o = took_alone before f.middle after r f.vars g f.there f.takes f.asks o
 
-  -- What becomes of a rule that gives way to nothing, once it was opened: what it gives and what it asks for are these
+  -- What becomes of a rule once it was opened: what it gives and what it asks for are these
   -- terms then.
   module _ (before opened : Store) (r : Rule) (vars : List Tree) (g given : Tree) (asks : List Tree)
-      (o : Opens u before opened r vars) (gives_way_to_none : r.shadowed_by ≡ []) (gives : given ≡ inst vars 0 r.gives)
+      (o : Opens u before opened r vars) (gives : given ≡ inst vars 0 r.gives)
       (asks_are : asks ≡ map (inst vars 0) r.asks) where
-    stands : (middle : Store) → StandsFirst held middle r vars
-    stands middle clause had c h =
-        let d = subst (λ z. Contains z clause) gives_way_to_none c in
-        let below : d.0 < 0 = d.1 in
-        absurd (omega (arith, below))
-
     pub rule_is_apart : NoUnifier opened g given → Did u held rules before (rule r g) no
     rule_is_apart n = no_fit before opened r vars g o (subst (NoUnifier opened g) gives n)
+
+    pub rule_gives_way : (middle : Store) → Exact opened middle g given → GivesWay held middle r vars →
+        Did u held rules before (rule r g) no
+    rule_gives_way middle x w = no_stand before opened middle r vars g o (subst (Exact opened middle g) gives x) w
 
     pub rule_fails : (middle : Store) → Exact opened middle g given → Did u held rules middle (goals asks) no →
         Did u held rules before (rule r g) no
@@ -90,8 +88,8 @@ module _ (u : ℕ) (held : List Tree) (rules : List Rule) where
         (subst (λ z. Did u held rules middle (goals z) no) asks_are d)
 
     pub rule_follows : (middle after : Store) → Contains rules r → Exact opened middle g given →
-        Did u held rules middle (goals asks) (yes after) → FollowsBy u held rules before after r g
-    rule_follows middle after c x d = record {
+        StandsFirst held middle r vars → Did u held rules middle (goals asks) (yes after) → FollowsBy u held rules before after r g
+    rule_follows middle after c x s d = record {
       there = c;
       vars = vars;
       middle = middle;
@@ -99,7 +97,7 @@ module _ (u : ℕ) (held : List Tree) (rules : List Rule) where
         opened = opened;
         opens = o;
         exact = subst (Exact opened middle g) gives x;
-        stands = stands middle;
+        stands = s;
       };
       asks = subst (λ z. Did u held rules middle (goals z) (yes after)) asks_are d;
     }

@@ -3,6 +3,7 @@
 --   AreClosed ts               no variable stands in any of a list, and nothing that stands for one
 --   Rule                       what an impl says: what it binds, gives and asks for
 --   IsShadowed held r xs       the environment has a clause that the rule gives way to, its variables being xs
+--   IsShadowedExactly held r xs  it has just this clause, and not only up to erasure
 --   Follows u held rules q     what is asked follows from rules, by values that universe u can name
 --   given t                    what the environment has, as a rule
 --   Meets c w e a b            two clauses say one thing in an environment: they are related at invariance
@@ -36,6 +37,14 @@ pub record IsShadowed (held : List Tree) (r : Rule) (xs : List Tree) : Type 0 wh
   pub of_environment : Contains held had
   pub same : erase had ≡ erase (inst xs 0 clause)
 
+-- It has just this clause, and not only up to erasure.
+pub record IsShadowedExactly (held : List Tree) (r : Rule) (xs : List Tree) : Type 0 where
+  pub clause : Tree
+  pub had : Tree
+  pub of_rule : Contains r.shadowed_by clause
+  pub of_environment : Contains held had
+  pub same : had ≡ inst xs 0 clause
+
 -- What is asked: one goal, or all of a list.
 pub data Asked : Type 0 where
   one : Tree → Asked
@@ -65,7 +74,7 @@ pub data Meets (c : Items) (w : Interpretation) (e : Tree) : Tree → Tree → T
 pub data Derives (c : Items) (w : Interpretation) (e : Tree) (u : ℕ) (held : List Tree) (rules : List Rule) :
     Asked → Type 0 where
   derived_by : (r : Rule) (xs : List Tree) (g : Tree) → Contains rules r → FitKinds r.binds xs → AllNamable u xs →
-      (IsShadowed held r xs → ⊥) → Meets c w e g (inst xs 0 r.gives) →
+      (IsShadowedExactly held r xs → ⊥) → Meets c w e g (inst xs 0 r.gives) →
       Derives c w e u held rules (all (map (inst xs 0) r.asks)) → Derives c w e u held rules (one g)
   all_derived : Derives c w e u held rules (all [])
   next_derived : (g : Tree) (gs : List Tree) → Derives c w e u held rules (one g) →
@@ -78,6 +87,6 @@ pub record DerivesBy (c : Items) (w : Interpretation) (e : Tree) (u : ℕ) (held
   pub values : List Tree
   pub fit : FitKinds r.binds values
   pub namable : AllNamable u values
-  pub stands : IsShadowed held r values → ⊥
+  pub stands : IsShadowedExactly held r values → ⊥
   pub meets : Meets c w e g (inst values 0 r.gives)
   pub asks : Derives c w e u held rules (all (map (inst values 0) r.asks))

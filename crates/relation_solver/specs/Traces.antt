@@ -5,6 +5,7 @@
 --   Opens u st st' r xs         rule r was opened by the variables xs
 --   GivesWay held st r xs       whatever an opened rule gives way to the environment has, under each solution of st
 --   StandsFirst held st r xs    or has it under none
+--   StandsExactly held st r xs  under none it has just that, and not only up to erasure
 --   HasOneValue st g            a goal comes to one under all solutions of st
 --   IsReadOf st g h             h is what g is read as in st
 --   Did u held rules st q a     a solver that was asked q in the record st answered a, by these calls and no others
@@ -22,7 +23,7 @@ use Rattle.relation_semantics.specs.Stores.{Store, IsSound, InContext, OnlyShrin
 use Rattle.relation_semantics.specs.Goals.{Goal, Holds}
 use Rattle.relation_semantics.specs.FirstOrder.{IsErasedSolution, Unifies}
 use Rattle.relation_semantics.specs.Steps.{AllNamable, MakesVariables, IsLater}
-use Rattle.relation_semantics.specs.Outcomes.{Exact, NoUnifier}
+use Rattle.relation_semantics.specs.Outcomes.{Exact, NoUnifier, NoEqualTerms}
 use Rattle.relation_solver.specs.Rules.{AreClosed, Rule, Asked, one, all, Follows, Meets, Derives, DerivesBy}
 
 -- A list without one of its elements.
@@ -66,6 +67,11 @@ pub record GivesWay (held : List Tree) (st : Store) (r : Rule) (vars : List Tree
 abbrev pub StandsFirst : List Tree → Store → Rule → List Tree → Type 0
 StandsFirst held st r vars = (clause had : Tree) → Contains r.shadowed_by clause → Contains held had →
     NoUnifier st had (inst vars 0 clause)
+
+-- Under no solution it has just that, and not only up to erasure.
+abbrev pub StandsExactly : List Tree → Store → Rule → List Tree → Type 0
+StandsExactly held st r vars = (clause had : Tree) → Contains r.shadowed_by clause → Contains held had →
+    NoEqualTerms st had (inst vars 0 clause)
 
 -- All solutions of a record make one of a goal, up to erasure.
 abbrev pub HasOneValue : Store → Tree → Type 0
@@ -156,7 +162,7 @@ pub data Proves (c : Items) (e : Tree) (u : ℕ) (held : List Tree) (rules : Lis
     Store → Asked → Store → Type 0 where
   took : (before opened middle after : Store) (v : ℕ) (r : Rule) (vars : List Tree) (g : Tree) → Contains rules r →
       v ≤ u → Opens v before opened r vars → MakesMeet c middle left e g (inst vars 0 r.gives) →
-      OnlyShrinks opened middle → StandsFirst held middle r vars →
+      OnlyShrinks opened middle → StandsExactly held middle r vars →
       Proves c e u held rules left middle (all (map (inst vars 0) r.asks)) after →
       Proves c e u held rules left before (one g) after
   was_proved : (st : Store) (g : Tree) →
@@ -179,7 +185,7 @@ pub record OpensBy (c : Items) (e : Tree) (u : ℕ) (held : List Tree) (rules : 
   pub opens : Opens universe before opened r vars
   pub relates : MakesMeet c middle left e g (inst vars 0 r.gives)
   pub shrinks : OnlyShrinks opened middle
-  pub stands : StandsFirst held middle r vars
+  pub stands : StandsExactly held middle r vars
   pub asks : Proves c e u held rules left middle (all (map (inst vars 0) r.asks)) after
 
 -- Or it had found before that what satisfies the record makes the goal derived by this rule.

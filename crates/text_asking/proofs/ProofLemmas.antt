@@ -1,12 +1,11 @@
 -- What is asked whether it follows stays known, and what is told of it is.
 use Rattle.std.proofs.Common.{List, Some, None}
 use Rattle.std.specs.Prelude.{Result, Ok, Err, IfOk}
-use Rattle.relation_terms.specs.declared.terms.binder.Binder.{Binder}
 use Rattle.relation_terms.specs.declared.terms.keys.ClauseKey.{ClauseKey}
-use Rattle.relation_terms.specs.declared.terms.keys.ClausesKey.{ClausesKey}
 use Rattle.relation_terms.specs.Meaning.{Meaning, Extends}
 use Rattle.relation_terms.proofs.Stays.{knows_clause, knows_param_env}
 use Rattle.relation_semantics.specs.Contexts.{Context}
+use Rattle.relation_proving.specs.declared.opening.KeyedRule.{KeyedRule}
 use Rattle.relation_proving.specs.Answers.{NoNamesKnown}
 use Rattle.relation_proving.specs.declared.told.Told.{Told}
 use Rattle.relation_proving.specs.declared.told.Told.TheVariants.{Yes, No, Maybe}
@@ -24,7 +23,7 @@ proof_later e p h = record {
 }
 
 -- What a no names is known.
-pub told_known : {Key Id Name F : Type 0} (c : Context Key Id Name) (ks : List (Binder Key (ClausesKey Key)))
+pub told_known : {Key Id Name F : Type 0} (c : Context Key Id Name) (ks : List (KeyedRule Key))
     (g : ClauseKey Key) (told : Result (Told Key) F) → NoNamesKnown c c ks g told → KnowsTold c.meaning told
 told_known c ks g (Ok (Yes i)) h = tt
 told_known c ks g (Ok (No None)) h = tt
@@ -33,7 +32,7 @@ told_known c ks g (Ok (Maybe why)) h = tt
 told_known c ks g (Err f) h = tt
 
 -- The same where it was asked at all.
-pub all_told : {Key Id Name F W : Type 0} (c : Context Key Id Name) (ks : List (Binder Key (ClausesKey Key)))
+pub all_told : {Key Id Name F W : Type 0} (c : Context Key Id Name) (ks : List (KeyedRule Key))
     (g : ClauseKey Key) (r : Result (Result (Told Key) F) W) → IfOk r (NoNamesKnown c c ks g) →
     IfOk r (KnowsTold c.meaning)
 all_told c ks g (Ok told) h = told_known c ks g told h

@@ -9,8 +9,9 @@ ghost use Rattle.text_asking.specs.Proofs.{KnowsPair};
 use crate::environment::environment_of;
 use crate::proving::{perhaps_of, rule_at, rules_of};
 use crate::question::{Answer, Outcome, Ready, Unasked};
+use relation_proving::opening::KeyedRule;
 use relation_reference::context::RefCtxt;
-use relation_terms::terms::{Binder, ClausesKey, Interner, Keys, ParamEnvKey};
+use relation_terms::terms::{Interner, Keys, ParamEnvKey};
 use std::fmt::{self, Write};
 use text_proving::impls::{Impls, ImplsResult, WhyApart, WhyNot, ask_impls, impls_text};
 use text_proving::open::ask_open_impls;
@@ -20,12 +21,12 @@ use text_reading::naming::{Impl, Parts};
 // Two impls, the rules by which it is told whether they overlap, and the environment.
 #[derive(Drop)]
 struct Pair<X: Copy> {
-    rules: Vec<Binder<X, ClausesKey<X>>>,
+    rules: Vec<KeyedRule<X>>,
     // These and those that there may be, or none where there are no such.
-    perhaps: Vec<Binder<X, ClausesKey<X>>>,
+    perhaps: Vec<KeyedRule<X>>,
     param_env: ParamEnvKey<X>,
-    left: Binder<X, ClausesKey<X>>,
-    right: Binder<X, ClausesKey<X>>,
+    left: KeyedRule<X>,
+    right: KeyedRule<X>,
 }
 
 // The same over an interner's keys.

@@ -12,15 +12,16 @@ use crate::environment::environment_of;
 use crate::fits::have_named;
 use crate::printing::{write_bound, write_constraints, write_tainted};
 use crate::question::{Answer, Outcome, Ready, Unasked};
+use relation_proving::opening::KeyedRule;
 use relation_proving::proving::Told;
 use relation_reference::context::RefCtxt;
-use relation_terms::terms::{Binder, Clause, ClauseKey, ClausesKey, Interner, Keys, ParamEnvKey};
+use relation_terms::terms::{Clause, ClauseKey, Interner, Keys, ParamEnvKey};
 use std::fmt::{self, Write};
 use text_clauses::building::build_clause;
 use text_clauses::printing::write_clause;
 use text_proving::open::ask_open_proof;
 use text_proving::proving::{ProofResult, WhyNot, ask_proof, place_named, proof_text};
-use text_proving::rules::{RuleOf, rule_of, rules_held};
+use text_proving::rules::{RuleOf, rule_of, rule_of_type, rules_held};
 use text_proving::sources::{Source, source_held, write_source};
 use text_reading::naming::{Impl, Parts};
 use text_terms::building::variables_at;
@@ -29,9 +30,9 @@ use text_terms::printing::TextsOf;
 // What is asked: whether a goal follows from rules in an environment.
 #[derive(Drop)]
 struct Proof<X: Copy> {
-    rules: Vec<Binder<X, ClausesKey<X>>>,
+    rules: Vec<KeyedRule<X>>,
     // These and those that there may be, or none where there are no such.
-    perhaps: Vec<Binder<X, ClausesKey<X>>>,
+    perhaps: Vec<KeyedRule<X>>,
     param_env: ParamEnvKey<X>,
     goal: ClauseKey<X>,
 }
@@ -49,7 +50,7 @@ fn goal_of<I: Interner>(cx: &mut I, terms: &Ready<I>, number: usize) -> Option<C
     build_clause(cx, terms.ids, terms.names, terms.parts, terms.built, clause)
 }
 
-// A rule of an impl of a program.
+// The first rule of an impl of a program.
 pub(super) fn rule_at<I: Interner>(cx: &mut I, terms: &Ready<I>, said: &Impl) -> Option<RuleOf<I>>
     requires { AllReady (I.meaning cx.old) terms.now }
     ensures grown { Extends (I.meaning cx.old) (I.meaning cx.new) }
@@ -60,6 +61,53 @@ pub(super) fn rule_at<I: Interner>(cx: &mut I, terms: &Ready<I>, said: &Impl) ->
     match rule_of(cx, &variables, &clauses) {
         Ok(rule) => Some(rule),
         Err(_) => None,
+    }
+}
+
+// The rule of what an impl says that a type of its trait is: it gives way to what the first one gives.
+fn type_rule_at<I: Interner>(
+    cx: &mut I,
+    terms: &Ready<I>,
+    said: &Impl,
+    first: &Impl,
+) -> Option<RuleOf<I>>
+    requires { AllReady (I.meaning cx.old) terms.now }
+    ensures grown { Extends (I.meaning cx.old) (I.meaning cx.new) }
+    ensures sure { IfSome result (KnowsMade (I.meaning cx.new)) }
+{
+    let variables = variables_at(&*cx, terms.parts, terms.built, said.variables)?;
+    let implemented = goal_of(cx, terms, first.clauses.first)?;
+    let clauses = clauses_of(cx, terms, said.clauses)?;
+    let (given, asks) = clauses.split_first()?;
+    match rule_of_type(cx, &variables, implemented, *given, asks) {
+        Ok(rule) => Some(rule),
+        Err(_) => None,
+    }
+}
+
+// A rule of an impl, by the first one of it.
+fn rule_beside<I: Interner>(
+    cx: &mut I,
+    terms: &Ready<I>,
+    said: &Impl,
+    first: &Impl,
+) -> Option<RuleOf<I>>
+    requires { AllReady (I.meaning cx.old) terms.now }
+    ensures grown { Extends (I.meaning cx.old) (I.meaning cx.new) }
+    ensures sure { IfSome result (KnowsMade (I.meaning cx.new)) }
+{
+    if said.clauses.first == first.clauses.first {
+        rule_at(cx, terms, said)
+    } else {
+        type_rule_at(cx, terms, said, first)
+    }
+}
+
+// The first rule of an impl that has this one, by that of the one before.
+fn first_of(before: Option<Impl>, said: &Impl) -> Impl {
+    match before {
+        Some(first) if first.number == said.number => first,
+        _ => *said,
     }
 }
 
@@ -90,11 +138,14 @@ pub(super) fn rules_of<I: Interner>(
 {
     let list = terms.impls.get(..impls)?;
     let mut made = held_of(cx, terms, assumed)?;
+    let mut before: Option<Impl> = None;
     for said in list {
+        let first = first_of(before, said);
+        before = Some(first);
         if said.open && !open {
             continue;
         }
-        let next = rule_at(cx, terms, said)?;
+        let next = rule_beside(cx, terms, said, &first)?;
         if made.push(next).is_err() {
             return None;
         }

@@ -1,9 +1,7 @@
 -- What is told behind another answer, where what was recorded is again what it was.
 use Rattle.std.proofs.Common.{◌≡◌, ℕ, List, [], All, sym, subst, Option, Some, None}
 use Rattle.std.specs.Prelude.{Result, Ok, Err, IfOk, IfSome}
-use Rattle.relation_terms.specs.declared.terms.binder.Binder.{Binder}
 use Rattle.relation_terms.specs.declared.terms.keys.ClauseKey.{ClauseKey}
-use Rattle.relation_terms.specs.declared.terms.keys.ClausesKey.{ClausesKey}
 use Rattle.relation_terms.specs.declared.terms.keys.ParamEnvKey.{ParamEnvKey}
 use Rattle.relation_terms.specs.Meaning.{Extends}
 use Rattle.relation_terms.specs.Trees.{apply}
@@ -12,10 +10,11 @@ use Rattle.relation_semantics.specs.FirstOrder.{IsErasedSolution}
 use Rattle.kept_records.specs.Records.{SameRecord}
 use Rattle.kept_records.proofs.Kept.{same_through}
 use Rattle.relation_solver.specs.Rules.{Rule, one, Follows}
+use Rattle.relation_proving.specs.declared.opening.KeyedRule.{KeyedRule}
 use Rattle.relation_proving.specs.Answers.{YesDerives, YesIsBy, YesMakesFollow, YesLosesNone}
 use Rattle.relation_proving.specs.Answers.{NoFollowsNever, NoNamesKnown, LeavesNothing}
 use Rattle.relation_proving.specs.Candidates.{MayAsk, IsFirstOrderClause}
-use Rattle.relation_proving.specs.RuleTerms.{MayUse}
+use Rattle.relation_proving.specs.RuleTerms.{MayUse, held_of}
 use Rattle.relation_proving.specs.Telling.{IsBack, IsExact, KnowsBlame, goal_tree}
 use Rattle.relation_proving.specs.declared.told.Blame.{Blame}
 use Rattle.relation_proving.specs.declared.told.Told.{Told}
@@ -27,7 +26,7 @@ use Rattle.relation_impls.specs.declared.answer.Impls.TheVariants.{Apart, Meet, 
 use Rattle.relation_impls.specs.Overlaps.{DoMeet}
 use Rattle.text_proving.specs.Open.{IsNoOrMaybe, unclear_if_apart}
 
-module _ {Key Id Name F : Type 0} (c d : Context Key Id Name) (ks : List (Binder Key (ClausesKey Key)))
+module _ {Key Id Name F : Type 0} (c d : Context Key Id Name) (ks : List (KeyedRule Key))
     (g : ClauseKey Key) (named : Option (Blame Key)) where
   -- Nothing is said of a yes where it is none.
   pub derives_none : (e : ParamEnvKey Key) (r : Result (Told Key) F) → IfOk r (IsNoOrMaybe named) →
@@ -65,20 +64,20 @@ module _ {Key Id Name F : Type 0} (c d : Context Key Id Name) (ks : List (Binder
 
 module _ {Key Id Name F : Type 0} (c d e : Context Key Id Name) (b : IsBack c d) where
   -- A no says of the record before what it says of the one that is as it was.
-  pub none_on : (ks : List (Binder Key (ClausesKey Key))) (g : ClauseKey Key) → All (MayUse c) ks → MayAsk c g →
+  pub none_on : (ks : List (KeyedRule Key)) (g : ClauseKey Key) → All (MayUse c) ks → MayAsk c g →
       (r : Result (Told Key) F) → NoFollowsNever d e ks g r → NoFollowsNever c e ks g r
   none_on ks g uses may (Ok (No named)) h = λ rs x f s sol fol.
       let st = (b.same).store in
       let same = goal_stays c d (back_goes c d b) g may in
       h rs (subst (λ z. IsExact z.universe d ks rs) (sym st) (exact_back c d b ks (c.store).universe rs uses x))
       (subst IsFirstOrderClause (sym same) f) s (subst (λ z. IsErasedSolution z s) (sym st) sol)
-      (subst (λ z. Follows z.universe [] rs (one (apply s (goal_tree d g)))) (sym st)
-      (subst (λ t. Follows (c.store).universe [] rs (one (apply s t))) (sym same) fol))
+      (subst (λ z. Follows z.universe (held_of ks rs) rs (one (apply s (goal_tree d g)))) (sym st)
+      (subst (λ t. Follows (c.store).universe (held_of ks rs) rs (one (apply s t))) (sym same) fol))
   none_on ks g uses may (Ok (Yes i)) h = tt
   none_on ks g uses may (Ok (Maybe why)) h = tt
   none_on ks g uses may (Err f) h = tt
 
-  pub leaves_on : (ks js : List (Binder Key (ClausesKey Key))) (g : ClauseKey Key) (r : Result (Told Key) F) →
+  pub leaves_on : (ks js : List (KeyedRule Key)) (g : ClauseKey Key) (r : Result (Told Key) F) →
       LeavesNothing d e ks g r → LeavesNothing c e js g r
   leaves_on ks js g (Ok (Yes i)) h = tt
   leaves_on ks js g (Ok (No named)) h = same_through c d e b.same h
@@ -87,12 +86,12 @@ module _ {Key Id Name F : Type 0} (c d e : Context Key Id Name) (b : IsBack c d)
 
 module _ {Key Id Name : Type 0} (c d : Context Key Id Name) (b : IsBack c d) where
   -- That two impls meet is said of the record before too, where it is still told.
-  pub meeting_on : (ks : List (Binder Key (ClausesKey Key))) (k l : Binder Key (ClausesKey Key)) → All (MayUse c) ks →
+  pub meeting_on : (ks : List (KeyedRule Key)) (k l : KeyedRule Key) → All (MayUse c) ks →
       MayUse c k → MayUse c l → (x : Impls) → TellsMeeting d ks k l x → TellsMeeting c ks k l (unclear_if_apart x)
   meeting_on ks k l uses left right Meet h = λ rs p q x.
       let st = (b.same).store in
       let on = back_goes c d b in
-      subst (λ z. DoMeet z.universe rs p q) st (h rs p q (record {
+      subst (λ z. DoMeet z.universe (held_of ks rs) rs p q) st (h rs p q (record {
         rules = subst (λ z. IsExact z.universe d ks rs) (sym st) (exact_back c d b ks (c.store).universe rs uses x.rules);
         left_rule = rule_first_order c d on k p left x.left_rule;
         right_rule = rule_first_order c d on l q right x.right_rule;
@@ -101,8 +100,8 @@ module _ {Key Id Name : Type 0} (c d : Context Key Id Name) (b : IsBack c d) whe
   meeting_on ks k l uses left right (Unclear why) h = tt
 
 -- Where two impls aren't told apart nothing is said.
-pub apart_none : {Key Id Name : Type 0} (c : Context Key Id Name) (ks : List (Binder Key (ClausesKey Key)))
-    (k l : Binder Key (ClausesKey Key)) (x : Impls) → TellsApart c ks k l (unclear_if_apart x)
+pub apart_none : {Key Id Name : Type 0} (c : Context Key Id Name) (ks : List (KeyedRule Key))
+    (k l : KeyedRule Key) (x : Impls) → TellsApart c ks k l (unclear_if_apart x)
 apart_none c ks k l (Apart why) = tt
 apart_none c ks k l Meet = tt
 apart_none c ks k l (Unclear why) = tt

@@ -9,7 +9,6 @@ use Rattle.std.proofs.lemmas.List.Elements.{All-push, All-head, All-tail}
 use Rattle.relation_terms.specs.declared.predicate.kinds.ClauseKind.{ClauseKind}
 use Rattle.relation_terms.specs.declared.terms.binder.Binder.{Binder}
 use Rattle.relation_terms.specs.declared.terms.keys.ClauseKey.{ClauseKey}
-use Rattle.relation_terms.specs.declared.terms.keys.ClausesKey.{ClausesKey}
 use Rattle.relation_terms.specs.Heads.{BoundKind}
 use Rattle.relation_terms.specs.Trees.{Tree, bind, nil, cons, list_tree, known, Leaves}
 use Rattle.relation_terms.specs.Meaning.{Meaning, under}
@@ -18,6 +17,7 @@ use Rattle.relation_semantics.specs.Contexts.{Context}
 use Rattle.relation_semantics.specs.Relation.{IsValueLeaf}
 use Rattle.relation_semantics.specs.Stores.{Store, InContext, IsTermIn}
 use Rattle.may_relate.specs.Fitting.{MayBeRelated}
+use Rattle.relation_proving.specs.declared.opening.KeyedRule.{KeyedRule}
 use Rattle.relation_proving.specs.RuleTerms.{KnowsRule}
 use Rattle.relation_proving.proofs.OpenedRules.{each_known}
 use Rattle.text_proving.specs.Asked.{FitsUnder, MayServe}
@@ -78,11 +78,11 @@ closed_under None t n h = absurd (false≢true n)
 closed_under (Some vs) t n h = h
 
 -- A known rule without variables serves of which each clause may stand in the context.
-pub serves : {Key Id Name : Type 0} (c : Context Key Id Name) (r : Binder Key (ClausesKey Key))
-    (ks : List (ClauseKey Key)) → KnowsRule c r → (c.meaning).clauses r.value ≡ list_tree (c.meaning).clause ks →
-    All (FitsUnder c r.bound_vars) ks → Leaves IsValueLeaf ((c.meaning).clauses r.value) → MayServe c r
+pub serves : {Key Id Name : Type 0} (c : Context Key Id Name) (r : KeyedRule Key)
+    (ks : List (ClauseKey Key)) → KnowsRule c r → (c.meaning).clauses (r.clauses).value ≡ list_tree (c.meaning).clause ks →
+    All (FitsUnder c (r.clauses).bound_vars) ks → Leaves IsValueLeaf ((c.meaning).clauses (r.clauses).value) → MayServe c r
 serves c r ks n s h v =
-    let o = (c.meaning).bound_vars r.bound_vars in
-    let t = (c.meaning).clauses r.value in
+    let o = (c.meaning).bound_vars (r.clauses).bound_vars in
+    let t = (c.meaning).clauses (r.clauses).value in
     let all = all_related (c.meaning).clause c.store o t ks s n h in
     record { may = record { is_known = n; taken = all.1; is_in = all.0 }; closed = closed_under o t n v }

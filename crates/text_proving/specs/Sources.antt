@@ -6,15 +6,14 @@
 use Rattle.std.specs.Prelude.{◌≡◌, ℕ, List, ◌++◌, codes}
 use Rattle.std.specs.Fmt.{decimal}
 use Rattle.std.specs.List.{Contains}
-use Rattle.relation_terms.specs.declared.terms.binder.Binder.{Binder}
 use Rattle.relation_terms.specs.declared.terms.keys.ClauseKey.{ClauseKey}
-use Rattle.relation_terms.specs.declared.terms.keys.ClausesKey.{ClausesKey}
 use Rattle.relation_terms.specs.Trees.{Tree, cons}
 use Rattle.relation_terms.specs.Meaning.{Meaning}
 use Rattle.text_proving.specs.declared.sources.Source.{Source}
 use Rattle.text_proving.specs.declared.sources.Source.TheVariants.{Impl, Assumed, Implied}
+use Rattle.relation_proving.specs.declared.opening.KeyedRule.{KeyedRule}
 
-module _ {Key Id Name : Type 0} (m : Meaning Key Id Name) (r : Binder Key (ClausesKey Key)) where
+module _ {Key Id Name : Type 0} (m : Meaning Key Id Name) (r : KeyedRule Key) where
   -- A rule gives a clause: its first one.
   abbrev pub Gives : ClauseKey Key → Type 0
   Gives k = (asks : Tree) × (m.clauses r.value ≡ cons (m.clause k) asks)

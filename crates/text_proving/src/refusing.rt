@@ -88,12 +88,12 @@ fn rule_refusal<C: HasVariables>(ctx: &C, rule: &RuleOf<C::Interner>) -> Option<
     ensures { IfNone result (MayServe (C.state ctx.now) rule.now) }
 {
     let cx = ctx.cx();
-    if !are_closed(cx, &rule.value) {
+    if !are_closed(cx, &rule.clauses.value) {
         return Some(WhyNot::Open);
     }
-    let list = cx.clauses(&rule.value);
+    let list = cx.clauses(&rule.clauses.value);
     for clause in list {
-        if let Some(why) = clause_refusal(ctx, rule.bound_vars, clause) {
+        if let Some(why) = clause_refusal(ctx, rule.clauses.bound_vars, clause) {
             return Some(why);
         }
     }

@@ -27,7 +27,7 @@ fn gives<I: Interner>(cx: &I, rule: &RuleOf<I>, clause: &Clause<I>) -> bool
     ensures yes { result ≡ true → Gives (I.meaning cx.now) rule.now clause.now }
     ensures no { result ≡ false → Gives (I.meaning cx.now) rule.now clause.now → ⊥ }
 {
-    match cx.clauses(&rule.value).split_first() {
+    match cx.clauses(&rule.clauses.value).split_first() {
         Some((given, _)) => given == clause,
         None => false,
     }

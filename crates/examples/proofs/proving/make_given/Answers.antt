@@ -14,4 +14,4 @@ returns-clause-is g c =
     (c.deref-2.ensures.value ∙ c.in_ok-push.ensures.items ∙
     ap (λ z. z ++ c.args.clause ∷ []) c.new-clauses.ensures.items)
     (g.I.Interner.meaning c.make_rule.new.cx) c.make_rule.result c.deref.result.now
-    (c.deref.ensures.value ∙ c.new-bound.ensures.items) c.make_rule.ensures.made
+    (c.deref.ensures.value ∙ c.new-bound.ensures.items) c.make_rule.ensures.made c.make_rule.ensures.kind

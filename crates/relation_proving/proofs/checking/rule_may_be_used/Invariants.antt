@@ -6,4 +6,4 @@ use Rattle.relation_proving.proofs.checking.rule_may_be_used.Given as goal
 
 abbrev pub invariant-loop-clause : goal.invariant-loop-clause
 invariant-loop-clause g l =
-    All (IsProvablePart (g.C.InferCtxtLike.state l.ctx) (l.rule).bound_vars) (take l.clause-index l.clauses)
+    All (IsProvablePart (g.C.InferCtxtLike.state l.ctx) ((l.rule).clauses).bound_vars) (take l.clause-index l.clauses)

@@ -3,7 +3,8 @@ use Rattle.std.proofs.Common.{rules, arith, ◌≤◌, ◌+◌, sym, subst, ◌�
 use Rattle.relation_terms.specs.Interning.{AreEqualAsTrees}
 use Rattle.kept_records.proofs.Kept.{may_put_back}
 use Rattle.relation_proving.specs.declared.searching.Round.TheVariants.{Proved, Failed}
-use Rattle.relation_proving.specs.Candidates.{MayAsk, TellsCandidate}
+use Rattle.relation_proving.specs.Candidates.{MayAsk}
+use Rattle.relation_proving.specs.Shadowing.{TellsCandidate}
 use Rattle.relation_proving.specs.RuleTerms.{MayUse}
 use Rattle.relation_proving.proofs.Barred.{never_fails}
 use Rattle.relation_proving.specs.Remembering.{MayGoOn, RemembersMore}
@@ -11,7 +12,7 @@ use Rattle.relation_proving.specs.Telling.{GoesOn, TellsGoal}
 use Rattle.relation_proving.specs.Searching.{TellsRound}
 use Rattle.relation_proving.proofs.GoingOn.{goes_itself, goes_through, back_itself, back_through, back_goes}
 use Rattle.relation_proving.proofs.GoingOn.{uses_on, proves_on, ask_on, asks_on}
-use Rattle.relation_proving.proofs.Answering.{by_asks_result, by_apart, AsksOn, asking_begins, asking_ended}
+use Rattle.relation_proving.proofs.Answering.{by_asks_result, by_apart, by_giving_way, AsksOn, asking_begins, asking_ended}
 use Rattle.relation_proving.proofs.Answering.{asking_goes_on, asking_fails, round_proved, round_failed, named_known}
 use Rattle.relation_proving.proofs.ReadGoals.{read_as, read_one, read_tells}
 use Rattle.relation_proving.proofs.Remembered.{all_on, again_read, same_all, all_still, more_on, more_through, told_more}
@@ -302,8 +303,7 @@ try_and_put_back-returns g t c =
 -- One rule.
 pub follows_by-try_rule-requires : goal.follows_by-try_rule-requires
 follows_by-try_rule-requires g t c = record {
-  lawful = c.requires.may.lawful;
-  env_known = c.requires.may.env_known;
+  may = c.requires.may;
   rule = c.requires.rule;
   goal = c.requires.goal;
 }
@@ -316,7 +316,7 @@ follows_by-all_follow-requires g t c κs within =
     let on : GoesOn s d = record { later = e.later; lawful = e.lawful; grown = e.grown } in
     let m = c.decreases in
     let may = proves_on s d on c.args.rules.now c.args.param_env c.requires.may in
-    let asks = (subst (TellsCandidate s c.args.param_env c.args.rule c.args.goal.now d) c.in-Asks.is e.tells).0 in
+    let asks = (subst (TellsCandidate s c.args.rules.now c.args.param_env c.args.rule c.args.goal.now d) c.in-Asks.is e.tells).0 in
     let known = all_on c.args.rules.now c.args.param_env s d on c.requires.may.env_known c.requires.may.rules c.args.asked.now c.requires.remembers in
     search rules
 
@@ -330,7 +330,7 @@ follows_by-returns-in-Asks g t c =
     record {
       goes_on = goes_through s d f on c.all_follow.ensures.goes_on;
       tells = by_asks_result s d f c.args.param_env c.requires.may.env_known c.args.rule c.args.goal.now c.args.rules.now on
-          c.requires.may.rules c.in-Asks.asks (subst (TellsCandidate s c.args.param_env c.args.rule c.args.goal.now d) c.in-Asks.is e.tells) c.all_follow.ensures.goes_on c.all_follow.result
+          c.requires.may.rules c.in-Asks.asks (subst (TellsCandidate s c.args.rules.now c.args.param_env c.args.rule c.args.goal.now d) c.in-Asks.is e.tells) c.all_follow.ensures.goes_on c.all_follow.result
           c.all_follow.ensures.tells;
       remembers = c.all_follow.ensures.remembers;
     }
@@ -344,7 +344,20 @@ follows_by-returns-in-Apart g t c =
     record {
       goes_on = on;
       tells = by_apart s d d c.args.param_env c.requires.may.env_known c.args.rule c.args.goal.now c.args.rules.now on c.requires.may.rules
-          (subst (TellsCandidate s c.args.param_env c.args.rule c.args.goal.now d) c.in-Apart.is e.tells);
+          (subst (TellsCandidate s c.args.rules.now c.args.param_env c.args.rule c.args.goal.now d) c.in-Apart.is e.tells);
+      remembers = all_still c.args.rules.now c.args.param_env s d on c.requires.may.env_known c.requires.may.rules c.args.asked.now c.requires.remembers;
+    }
+
+pub follows_by-returns-in-GivesWay : goal.follows_by-returns-in-GivesWay
+follows_by-returns-in-GivesWay g t c =
+    let s = g.C.InferCtxtLike.state c.args.ctx.now in
+    let d = g.C.InferCtxtLike.state c.try_rule.new.ctx in
+    let e = c.in_ok-asks.ensures in
+    let on : GoesOn s d = record { later = e.later; lawful = e.lawful; grown = e.grown } in
+    record {
+      goes_on = on;
+      tells = by_giving_way s d d c.args.param_env c.requires.may.env_known c.args.rule c.args.goal.now c.args.rules.now on c.requires.may.rules
+          (subst (TellsCandidate s c.args.rules.now c.args.param_env c.args.rule c.args.goal.now d) c.in-GivesWay.is e.tells);
       remembers = all_still c.args.rules.now c.args.param_env s d on c.requires.may.env_known c.requires.may.rules c.args.asked.now c.requires.remembers;
     }
 

@@ -6,4 +6,4 @@ use Rattle.text_proving.proofs.refusing.rule_refusal.Given as goal
 -- the clauses so far may stand in the context
 abbrev pub invariant-loop-clause : goal.invariant-loop-clause
 invariant-loop-clause g l =
-    All (FitsUnder (g.C.InferCtxtLike.state l.ctx) (l.rule).bound_vars) (take l.clause-index l.list)
+    All (FitsUnder (g.C.InferCtxtLike.state l.ctx) ((l.rule).clauses).bound_vars) (take l.clause-index l.list)

@@ -27,6 +27,8 @@ loop-clause-preserved g c =
       grown = extends_on inv.grown c.rule_held.ensures.grown;
       known = known_more p n c.rule_held.ensures.grown before after next inv.known c.in_ok-next.ensures.held.0
           c.in_ok-push.ensures.items;
+      kinds = subst (All (λ rule. rule.kind ≡ Held)) (sym c.in_ok-push.ensures.items)
+          (All-push (λ rule. rule.kind ≡ Held) before next inv.kinds c.in_ok-next.ensures.kind);
       held = held_more m p n inv.grown c.rule_held.ensures.grown c.args.clauses.now c.loop-clause.clause-index
           c.clause-item.result before after next c.clause-item.is c.loop-clause-test.true sure inv.known inv.held
           c.in_ok-next.ensures.held c.in_ok-push.ensures.items;

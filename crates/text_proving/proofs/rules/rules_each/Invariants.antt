@@ -3,6 +3,7 @@ use Rattle.std.specs.List.{All}
 use Rattle.relation_terms.specs.Meaning.{Extends}
 use Rattle.relation_proving.specs.RuleTerms.{rule_tree}
 use Rattle.text_proving.specs.Made.{KnowsMade, held}
+use Rattle.relation_proving.specs.declared.opening.RuleKind.TheVariants.{Held}
 use Rattle.text_proving.proofs.rules.rules_each.Given as goal
 
 -- the rules so far are those of the first clauses
@@ -13,5 +14,6 @@ invariant-loop-clause g l =
     record {
       grown : Extends m n;
       known : All (KnowsMade n) l.rules.items;
+      kinds : All (λ rule. rule.kind ≡ Held) l.rules.items;
       held : map (rule_tree n) l.rules.items ≡ map (held m) (take l.clause-index l.clauses);
     }

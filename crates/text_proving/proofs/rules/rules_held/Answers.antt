@@ -18,6 +18,7 @@ returns g c =
     record {
       grown = extends_on c.in_ok-all.ensures.grown c.rules_each.ensures.grown;
       known = c.in_ok-rules.ensures.known;
+      kinds = c.in_ok-rules.ensures.kinds;
       held = record {
         all = map p.clause c.in_ok-all.all.items;
         closure = c.in_ok-all.ensures.closure;

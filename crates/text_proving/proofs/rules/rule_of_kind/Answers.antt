@@ -1,6 +1,6 @@
 use Rattle.relation_terms.proofs.Stays.{extends_on}
 use Rattle.text_proving.proofs.Making.{list_known, clauses_later, made_rule}
-use Rattle.text_proving.proofs.rules.rule_of.Goals as goal
+use Rattle.text_proving.proofs.rules.rule_of_kind.Goals as goal
 
 pub mk_clauses-requires : goal.mk_clauses-requires
 mk_clauses-requires g c =
