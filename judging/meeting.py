@@ -7,7 +7,7 @@ from judging import headers, worlds
 from judging.answering import AMBIGUOUS, BY_BOUND, BY_HEADER, BY_SIZED, DEPTH, ELSEWHERE, LATE, OPEN, UNSPELLED, WRONG
 from judging.answering import Judged, open_because
 from judging.asking import split_list, told
-from judging.crate import OTHER, OWN, head, is_blanket, is_whole, subject
+from judging.crate import OTHER, OWN, head, is_blanket, is_whole, subject, types_of
 from judging.environments import arguments
 from judging.library import library, put
 from judging.turns import ALL, DECLARED, Bound
@@ -32,16 +32,62 @@ def pairs_of(it):
                 yield one, other
 
 
+def keyed(it, impl):
+    """Gives the types by whose keys a table finds an impl: what it is of, and what its trait is over."""
+    sorts = [sort for sort, _ in it.traits[impl.name].params]
+    return [impl.of, *(arg for sort, arg in zip(sorts, arguments(impl.trait)) if sort == "type")]
+
+
+def keys_of(it, asker, impls):
+    """Gives the keys by which a table finds impls, of each as many as there are types, where one may be nothing."""
+    types = {id(impl): keyed(it, impl) for impl in impls}
+    some = list(dict.fromkeys(of for its in types.values() for of in its))
+    answers = asker.ask([], [[f"key {of}"] for of in some])
+    keys = {of: answer[0] for of, answer in zip(some, answers) if answer and answer[0] != "none"}
+    return {impl: [keys.get(of) for of in its] for impl, its in types.items()}
+
+
+def are_of_two_keys(keys, pair):
+    """Says whether a table has two impls at two keys, of what they are of or of what their trait is over."""
+    left, right = (keys[id(impl)] for impl in pair)
+    return any(one and other and one != other for one, other in zip(left, right))
+
+
+def closed_names(it, pairs):
+    """Gives a name to the header of each impl that has no parameter, over types alone."""
+    prefix = "header"
+    while any(name.startswith(prefix) for name in (*it.types, *it.traits, *it.of.sorts)):
+        prefix += "_"
+    some = {id(impl): impl for pair in pairs for impl in pair if not impl.params}.values()
+    closed = [impl for impl in some if all(sort == "type" for sort, _ in it.traits[impl.name].params)]
+    names = {id(impl): f"{prefix}{at}" for at, impl in enumerate(closed)}
+    return names, [f"let {names[id(impl)]} = ({', '.join(types_of(impl))},);" for impl in closed]
+
+
+def asked_of(names, pair):
+    """Asks whether the headers of two impls meet: where no parameter stands in them, whether they are one."""
+    if all(id(impl) in names for impl in pair):
+        return " == ".join(names[id(impl)] for impl in pair)
+    return f"overlap {', '.join(map(head, pair))}"
+
+
 def judge_pairs(it, asker):
-    pairs = list(pairs_of(it))
-    answers = asker.ask([], [[f"overlap {head(one)}, {head(other)}"] for one, other in pairs])
-    found, met = [], []
-    for pair, answer in zip(pairs, answers):
+    """Asks of each pair that stands at one key whether it overlaps, as rustc does."""
+    pairs, found, met = list(pairs_of(it)), [], []
+    keys, left = keys_of(it, asker, {id(impl): impl for pair in pairs for impl in pair}.values()), []
+    for pair in pairs:
+        if are_of_two_keys(keys, pair):
+            found.append(Judged(pair[0].place, f"apart by key, of {pair[1].place}", BY_HEADER))
+        else:
+            left.append(pair)
+    names, lets = closed_names(it, left)
+    answers = asker.ask(lets, [[asked_of(names, pair)] for pair in left])
+    for pair, answer in zip(left, answers):
         said = told(answer[0]) if answer else LATE
-        if said.startswith("meets"):
+        if said.startswith(("meets", "ok")):
             met.append(opened(pair, said))
         else:
-            comes = BY_HEADER if said.startswith("apart") else LATE
+            comes = BY_HEADER if said.startswith(("apart", "err")) else LATE
             found.append(Judged(pair[0].place, f"{said}, of {pair[1].place}", comes))
     return found + judge_met(it, asker, met)
 
@@ -73,11 +119,10 @@ def judge_met(it, asker, met):
         for answer in some or []:
             one.bound.note(answer)
         one.bound.note_all(variables(one.bound))
-    worlds_of = (worlds.spelled(it), worlds.all_own(it), worlds.perhaps(it))
-    said = [said_of(asker, rules, met) for rules in worlds_of]
+    said = said_of_all(it, asker, met)
     found = []
-    for at, (pair, text, _, asks, sized, bound) in enumerate(met):
-        goals = [tuple(world[at].get(ask, OPEN) for world in said) for ask in asks]
+    for one, goals in zip(met, said):
+        pair, text, _, _, sized, bound = one
         is_sized = not any(is_unsized(it, bound.terms.get(var, "")) for var in sized)
         whole = all(is_whole(impl.lacks) for impl in pair)
         whole = whole and not any(may_be_unsized(bound.terms.get(var, "")) for var in sized)
@@ -86,6 +131,17 @@ def judge_met(it, asker, met):
             comes = BY_SIZED
         found.append(Judged(pair[0].place, f"{text}, of {pair[1].place}: {head(pair[0])}, {head(pair[1])}", comes))
     return found
+
+
+def said_of_all(it, asker, met):
+    """Gives what is said of each bound of impls that meet: by what is spelled, by all impls, and by any beside. Where one
+    doesn't hold by the last, the others aren't asked."""
+    perhaps = said_of(asker, worlds.perhaps(it), met)
+    left = [at for at, said in enumerate(perhaps) if "no" not in said.values()]
+    rest = [met[at] for at in left]
+    spelled, own = (dict(zip(left, said_of(asker, rules(it), rest))) for rules in (worlds.spelled, worlds.all_own))
+    by = [(spelled.get(at, {}), own.get(at, {}), said) for at, said in enumerate(perhaps)]
+    return [[tuple(one.get(ask, OPEN) for one in said) for ask in it.asks] for it, said in zip(met, by)]
 
 
 def variables(bound):

@@ -27,9 +27,7 @@ def judge_stated(it, asker):
     asked = [(has.text(), goal_in(has, impl, clause)) for has, (impl, clause) in zip(environments, goals)]
     said = prove(asker, worlds.spelled(it), asked, DEPTH)
     again = [at for at, (impl, _) in enumerate(goals) if said[at] != "yes" and is_spelled(impl)]
-    some = [asked[at] for at in again]
-    more = [prove(asker, rules, some, MORE_DEPTH) for rules in (worlds.all_own(it), worlds.perhaps(it))]
-    more = dict(zip(again, zip(*more)))
+    more = dict(zip(again, said_by_more(it, asker, [asked[at] for at in again])))
     found = []
     for at, (impl, goal) in enumerate(goals):
         comes = HOLDS if said[at] == "yes" else UNSPELLED
@@ -38,6 +36,14 @@ def judge_stated(it, asker):
             comes = refused(is_open) if more[at][1] == "no" else open_because((said[at], *more[at]), True)
         found.append(Judged(impl.place, f"{said[at]}: {goal}, as {impl.name} states", comes))
     return found
+
+
+def said_by_more(it, asker, asked):
+    """Gives what is said of goals by all impls, and by any beside. Where that is no, the first isn't asked."""
+    perhaps = prove(asker, worlds.perhaps(it), asked, MORE_DEPTH)
+    left = [at for at, said in enumerate(perhaps) if said != "no"]
+    own = dict(zip(left, prove(asker, worlds.all_own(it), [asked[at] for at in left], MORE_DEPTH)))
+    return [(own.get(at), said) for at, said in enumerate(perhaps)]
 
 
 def refused(is_open):

@@ -23,10 +23,7 @@ pub fn is_skipped(ambient: Variance, variance: Variance) -> bool
     ensures yes { IsTrue result → xform ambient variance ≡ Bivariant }
     ensures no { IsFalse result → xform ambient variance ≢ Bivariant }
 {
-    match ambient.xform(variance) {
-        Variance::Bivariant => true,
-        _ => false,
-    }
+    matches!(ambient.xform(variance), Variance::Bivariant)
 }
 
 /// The variance at which an item's argument is related.
@@ -68,14 +65,8 @@ pub fn const_variance_at<I: Interner, R: TypeRelation<I>>(r: &R, constant: &Cons
     ensures { let q = R.state r.now in (i : _) → xform q.ambient result ≡ const_part_in q constant.now i }
 {
     match r.cx().const_kind(constant) {
-        ConstKind::Expr(..) => Variance::Invariant,
-        ConstKind::Unevaluated(_) => Variance::Invariant,
-        ConstKind::Value(..) => Variance::Covariant,
-        ConstKind::Param(_) => Variance::Covariant,
-        ConstKind::Infer(_) => Variance::Covariant,
-        ConstKind::Bound(..) => Variance::Covariant,
-        ConstKind::Placeholder(_) => Variance::Covariant,
-        ConstKind::Error(_) => Variance::Covariant,
+        ConstKind::Expr(..) | ConstKind::Unevaluated(_) => Variance::Invariant,
+        _ => Variance::Covariant,
     }
 }
 

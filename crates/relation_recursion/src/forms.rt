@@ -116,20 +116,17 @@ pub(crate) fn is_error<I: Interner>(cx: &I, ty: &Ty<I>) -> bool
     requires { IsTrue (known ((I.meaning cx.now).ty ty.now)) }
     ensures { IsTrue result ↔ IsError ((I.meaning cx.now).ty ty.now) }
 {
-    match cx.ty_kind(ty) {
-        TyKind::Error(_) => true,
-        _ => false,
-    }
+    matches!(cx.ty_kind(ty), TyKind::Error(_))
 }
 
 // Whether all types of a form have as many parts.
 pub(crate) fn has_fixed_parts(form: Form) -> bool
     ensures { IsTrue result → IsFixed form }
 {
-    match form {
-        Form::Array | Form::Slice | Form::Pat | Form::RawPtr | Form::Ref => true,
-        _ => false,
-    }
+    matches!(
+        form,
+        Form::Array | Form::Slice | Form::Pat | Form::RawPtr | Form::Ref
+    )
 }
 
 // Whether two outlines are of one item, or both of none.
@@ -140,14 +137,9 @@ pub(crate) fn is_same_item<I: Interner>(
 ) -> bool
     ensures { IsTrue result ↔ IsOneItem (I.meaning _cx.now).id item.now other.now }
 {
-    match item {
-        Some(item) => match other {
-            Some(other) => item == other,
-            None => false,
-        },
-        None => match other {
-            Some(_) => false,
-            None => true,
-        },
+    match (item, other) {
+        (Some(item), Some(other)) => item == other,
+        (None, None) => true,
+        _ => false,
     }
 }

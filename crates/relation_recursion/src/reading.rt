@@ -27,10 +27,7 @@ pub(crate) fn is_error_const_of<I: Interner, R: TypeRelation<I>>(r: &R, constant
     requires { IsTrue (known ((R.state r.now).meaning.const_ constant.now)) }
     ensures { IsTrue result ↔ IsError ((R.state r.now).meaning.const_ constant.now) }
 {
-    match r.cx().const_kind(constant) {
-        ConstKind::Error(_) => true,
-        _ => false,
-    }
+    matches!(r.cx().const_kind(constant), ConstKind::Error(_))
 }
 
 pub(crate) fn compare_consts_of<I: Interner, R: TypeRelation<I>>(

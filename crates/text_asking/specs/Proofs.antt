@@ -8,6 +8,11 @@ use Rattle.relation_proving.specs.declared.told.Told.TheVariants.{No}
 use Rattle.text_proving.specs.Made.{KnowsClause, KnowsMade}
 use Rattle.text_asking.specs.declared.impls.Pair.{Pair}
 use Rattle.text_asking.specs.declared.proving.Proof.{Proof}
+use Rattle.text_asking.specs.declared.question.Ready.{Ready}
+
+-- The rule of each impl is known.
+abbrev pub AllMade : {I Key Id Name Span : Type 0} → Meaning Key Id Name → Ready I Key Id Name Span → Type 0
+AllMade m terms = All (KnowsMade m) terms.rules.now
 
 -- The rules, the environment and the goal are known.
 pub record KnowsProof {Key Id Name : Type 0} (m : Meaning Key Id Name) (p : Proof Key) : Type 0 where

@@ -1,13 +1,12 @@
 //! Whether two impls of a program overlap, with what each asks for, and how that is told.
 ghost use Rattle.std.specs.Prelude.{IfOk, IfSome};
 ghost use Rattle.relation_terms.specs.Meaning.{Extends};
-ghost use Rattle.text_proving.specs.Made.{KnowsMade};
 ghost use Rattle.variable_tables.specs.Tables.{IsLawful};
 ghost use Rattle.text_asking.specs.Asking.{AllReady, KnowsAnswer, KnowsRelated};
-ghost use Rattle.text_asking.specs.Proofs.{KnowsPair};
+ghost use Rattle.text_asking.specs.Proofs.{AllMade, KnowsPair};
 
 use crate::environment::environment_of;
-use crate::proving::{perhaps_of, rule_at, rules_of};
+use crate::proving::{perhaps_of, rule_said, rules_of};
 use crate::question::{Answer, Outcome, Ready, Unasked};
 use relation_proving::opening::KeyedRule;
 use relation_reference::context::RefCtxt;
@@ -15,7 +14,6 @@ use relation_terms::terms::{Interner, Keys, ParamEnvKey};
 use std::fmt::{self, Write};
 use text_proving::impls::{Impls, ImplsResult, WhyApart, WhyNot, ask_impls, impls_text};
 use text_proving::open::ask_open_impls;
-use text_proving::rules::RuleOf;
 use text_reading::naming::{Impl, Parts};
 
 // Two impls, the rules by which it is told whether they overlap, and the environment.
@@ -39,16 +37,6 @@ pub(super) struct Bound {
     of: usize,
 }
 
-// A rule of the program's impls, by its place.
-fn rule_said<I: Interner>(cx: &mut I, terms: &Ready<I>, place: usize) -> Option<RuleOf<I>>
-    requires { AllReady (I.meaning cx.old) terms.now }
-    ensures grown { Extends (I.meaning cx.old) (I.meaning cx.new) }
-    ensures sure { IfSome result (KnowsMade (I.meaning cx.new)) }
-{
-    let said = terms.impls.get(place)?;
-    rule_at(cx, terms, said)
-}
-
 // What a question asks about two impls, each by the place of its first rule, of which so many stand before it.
 fn pair_of<I: Interner>(
     cx: &mut I,
@@ -58,12 +46,13 @@ fn pair_of<I: Interner>(
     right: usize,
     impls: usize,
 ) -> Option<PairOf<I>>
-    requires { AllReady (I.meaning cx.old) terms.now }
+    requires ready { AllReady (I.meaning cx.old) terms.now }
+    requires made { AllMade (I.meaning cx.old) terms.now }
     ensures grown { Extends (I.meaning cx.old) (I.meaning cx.new) }
     ensures sure { IfSome result (KnowsPair (I.meaning cx.new)) }
 {
-    let left = rule_said(cx, terms, left)?;
-    let right = rule_said(cx, terms, right)?;
+    let left = rule_said(terms, left)?;
+    let right = rule_said(terms, right)?;
     let perhaps = perhaps_of(cx, terms, assumed, impls)?;
     let rules = rules_of(cx, terms, assumed, impls, false)?;
     let Ok(param_env) = environment_of(cx, terms, assumed) else {
@@ -154,6 +143,7 @@ pub(super) fn ask_whole_impls<I: Interner>(
 ) -> Outcome<I>
     requires lawful { IsLawful (I.meaning ctx.old.interner) ctx.old.inner }
     requires ready { AllReady (I.meaning ctx.old.interner) terms.now }
+    requires made { AllMade (I.meaning ctx.old.interner) terms.now }
     ensures lawful { IsLawful (I.meaning ctx.new.interner) ctx.new.inner }
     ensures grown { Extends (I.meaning ctx.old.interner) (I.meaning ctx.new.interner) }
     ensures known { let m = I.meaning ctx.new.interner in

@@ -4,6 +4,7 @@
 ghost use Rattle.variable_tables.specs.Tables.{IsLawful};
 ghost use Rattle.text_asking.specs.Asking.{AllReady};
 ghost use Rattle.text_asking.specs.Fits.{AllFit};
+ghost use Rattle.text_asking.specs.Proofs.{AllMade};
 
 mod answer_text;
 mod coherence;
@@ -31,6 +32,7 @@ mod writing;
 
 use answer_text::AnswerText;
 use fits::fits_of;
+use proving::rules_made;
 use question::{Ready, ask_unless, budget_of, context_for, why_not_held};
 use reference_interner::RefInterner;
 use relation_reference::context::RefCtxt;
@@ -86,6 +88,7 @@ fn ask_ready<I: SizedKeys + Drop, W: Write>(
     requires lawful { IsLawful (I.meaning ctx.interner) ctx.inner }
     requires ready { AllReady (I.meaning ctx.interner) terms.now }
     requires fit { AllFit (I.meaning ctx.interner) terms.now }
+    requires made { AllMade (I.meaning ctx.interner) terms.now }
 {
     let Ok(begun) = Kept::new(ctx.interner.alloc(), program) else {
         return refuse_all(program, between, out);
@@ -134,6 +137,30 @@ fn refuse_all<W: Write>(program: &Program, between: &str, out: &mut W) -> fmt::R
     answer_all(program, "memory", between, out)
 }
 
+// Asks all questions over terms that were built, once the rules of impls are made.
+fn ask_built<I: SizedKeys + Drop, W: Write>(
+    ctx: RefCtxt<I>,
+    texts: &TextsOf<I>,
+    program: &Program,
+    terms: Ready<I>,
+    between: &str,
+    out: &mut W,
+) -> fmt::Result
+    requires lawful { IsLawful (I.meaning ctx.interner) ctx.inner }
+    requires ready { AllReady (I.meaning ctx.interner) terms }
+    requires fit { AllFit (I.meaning ctx.interner) terms }
+{
+    let mut ctx = ctx;
+    let Some(rules) = rules_made(&mut ctx.interner, &terms) else {
+        return refuse_all(program, between, out);
+    };
+    let terms = Ready {
+        rules: &rules,
+        ..terms
+    };
+    ask_ready(ctx, texts, program, &terms, between, out)
+}
+
 /// Asks all questions of a program in turn, over an interner and the ids and names that its items and names have
 /// there, and writes the answers, with the given text between two. Where a growth is refused before an answer is whole,
 /// `memory` stands in its place. An answer longer than 1 MiB is cut off there, with `..` behind it. A question with
@@ -172,12 +199,13 @@ pub fn ask_over<I: SizedKeys + Drop, W: Write>(
         clauses: &program.clauses,
         methods: &program.methods,
         impls: &program.impls,
+        rules: &[],
         ids,
         names,
         no_ids,
         variables: &program.variables,
     };
-    ask_ready(ctx, texts, program, &terms, between, out)
+    ask_built(ctx, texts, program, terms, between, out)
 }
 
 /// Asks all questions of a program in turn over the reference interner, and writes the answers, with the given text

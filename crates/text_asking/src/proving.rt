@@ -1,11 +1,11 @@
 //! Whether a goal follows from a program's impls and from what is assumed, and how that is told.
-ghost use Rattle.std.specs.Prelude.{IfOk, IfSome};
-ghost use Rattle.std.specs.List.{All};
+ghost use Rattle.std.specs.Prelude.{◌≡◌, Some, IfOk, IfSome};
+ghost use Rattle.std.specs.List.{All, slice_get};
 ghost use Rattle.relation_terms.specs.Meaning.{Extends};
 ghost use Rattle.text_proving.specs.Made.{KnowsClause, KnowsMade};
 ghost use Rattle.variable_tables.specs.Tables.{IsLawful};
 ghost use Rattle.text_asking.specs.Asking.{AllReady, KnowsAnswer, KnowsRelated};
-ghost use Rattle.text_asking.specs.Proofs.{KnowsProof, KnowsTold};
+ghost use Rattle.text_asking.specs.Proofs.{AllMade, KnowsProof, KnowsTold};
 
 use crate::elaborating::clauses_of;
 use crate::environment::environment_of;
@@ -51,7 +51,7 @@ fn goal_of<I: Interner>(cx: &mut I, terms: &Ready<I>, number: usize) -> Option<C
 }
 
 // The first rule of an impl of a program.
-pub(super) fn rule_at<I: Interner>(cx: &mut I, terms: &Ready<I>, said: &Impl) -> Option<RuleOf<I>>
+fn rule_at<I: Interner>(cx: &mut I, terms: &Ready<I>, said: &Impl) -> Option<RuleOf<I>>
     requires { AllReady (I.meaning cx.old) terms.now }
     ensures grown { Extends (I.meaning cx.old) (I.meaning cx.new) }
     ensures sure { IfSome result (KnowsMade (I.meaning cx.new)) }
@@ -124,6 +124,32 @@ fn held_of<I: Interner>(cx: &mut I, terms: &Ready<I>, assumed: Parts) -> Option<
     }
 }
 
+// The rules of all impls of a program, in their order: made once, before the first question is asked.
+pub(super) fn rules_made<I: Interner>(cx: &mut I, terms: &Ready<I>) -> Option<Vec<RuleOf<I>>>
+    requires { AllReady (I.meaning cx.old) terms.now }
+    ensures grown { Extends (I.meaning cx.old) (I.meaning cx.new) }
+    ensures sure { IfSome result (λ made. All (KnowsMade (I.meaning cx.new)) made.items) }
+{
+    let mut made = Vec::new(cx.alloc());
+    let mut before: Option<Impl> = None;
+    for said in terms.impls {
+        let first = first_of(before, said);
+        before = Some(first);
+        let next = rule_beside(cx, terms, said, &first)?;
+        if made.push(next).is_err() {
+            return None;
+        }
+    }
+    Some(made)
+}
+
+// The rule of the impl at a place.
+pub(super) fn rule_said<I: Interner>(terms: &Ready<I>, place: usize) -> Option<RuleOf<I>>
+    ensures { IfSome result (λ rule. slice_get terms.now.rules.now place ≡ Some rule) }
+{
+    terms.rules.get(place).copied()
+}
+
 // The rules of what is assumed, and the first ones of a program's impls; with the open ones if these are asked for.
 pub(super) fn rules_of<I: Interner>(
     cx: &mut I,
@@ -132,20 +158,18 @@ pub(super) fn rules_of<I: Interner>(
     impls: usize,
     open: bool,
 ) -> Option<Vec<RuleOf<I>>>
-    requires { AllReady (I.meaning cx.old) terms.now }
+    requires ready { AllReady (I.meaning cx.old) terms.now }
+    requires made { AllMade (I.meaning cx.old) terms.now }
     ensures grown { Extends (I.meaning cx.old) (I.meaning cx.new) }
     ensures sure { IfSome result (λ made. All (KnowsMade (I.meaning cx.new)) made.items) }
 {
     let list = terms.impls.get(..impls)?;
     let mut made = held_of(cx, terms, assumed)?;
-    let mut before: Option<Impl> = None;
-    for said in list {
-        let first = first_of(before, said);
-        before = Some(first);
+    for (place, said) in list.iter().enumerate() {
         if said.open && !open {
             continue;
         }
-        let next = rule_beside(cx, terms, said, &first)?;
+        let next = rule_said(terms, place)?;
         if made.push(next).is_err() {
             return None;
         }
@@ -180,7 +204,8 @@ pub(super) fn perhaps_of<I: Interner>(
     assumed: Parts,
     impls: usize,
 ) -> Option<Vec<RuleOf<I>>>
-    requires { AllReady (I.meaning cx.old) terms.now }
+    requires ready { AllReady (I.meaning cx.old) terms.now }
+    requires made { AllMade (I.meaning cx.old) terms.now }
     ensures grown { Extends (I.meaning cx.old) (I.meaning cx.new) }
     ensures sure { IfSome result (λ made. All (KnowsMade (I.meaning cx.new)) made.items) }
 {
@@ -199,7 +224,8 @@ fn proof_of<I: Interner>(
     goal: usize,
     impls: usize,
 ) -> Option<ProofOf<I>>
-    requires { AllReady (I.meaning cx.old) terms.now }
+    requires ready { AllReady (I.meaning cx.old) terms.now }
+    requires made { AllMade (I.meaning cx.old) terms.now }
     ensures grown { Extends (I.meaning cx.old) (I.meaning cx.new) }
     ensures sure { IfSome result (KnowsProof (I.meaning cx.new)) }
 {
@@ -304,6 +330,7 @@ pub(super) fn ask_proved<I: Interner>(
 ) -> Outcome<I>
     requires lawful { IsLawful (I.meaning ctx.old.interner) ctx.old.inner }
     requires ready { AllReady (I.meaning ctx.old.interner) terms.now }
+    requires made { AllMade (I.meaning ctx.old.interner) terms.now }
     ensures lawful { IsLawful (I.meaning ctx.new.interner) ctx.new.inner }
     ensures grown { Extends (I.meaning ctx.old.interner) (I.meaning ctx.new.interner) }
     ensures known { let m = I.meaning ctx.new.interner in

@@ -7,6 +7,7 @@ ghost use Rattle.text_asking.specs.Puts.{ArePuts};
 ghost use Rattle.text_asking.specs.Meets.{AllKnown};
 ghost use Rattle.text_asking.specs.Asking.{AllReady, IsSetUp, KnowsAnswer, KnowsRelated};
 ghost use Rattle.text_asking.specs.Fits.{AllFit, IsFit};
+ghost use Rattle.text_asking.specs.Proofs.{AllMade};
 
 use crate::BUDGET;
 use crate::coherence::{ask_impls_overlap, ask_methods};
@@ -42,6 +43,7 @@ use std::alloc::{AllocError, Global};
 use text_elaboration::pulls::{Manner, Pulled};
 use text_proving::impls::Impls;
 use text_proving::proving::WhyNot as WhyUnproved;
+use text_proving::rules::RuleOf;
 use text_proving::sources::Source;
 use text_reading::naming::{Clause, Impl, Method, Parts, Put, Question, QuestionKind, Variables};
 use text_reading::reading::Relation;
@@ -64,8 +66,9 @@ pub(super) struct Ready<'a, I: Interner> {
     pub clauses: &'a [Clause],
     // The methods of tables.
     pub methods: &'a [Method],
-    // The rules of the impls that goals may follow from.
+    // The impls that goals may follow from, and the rule of each.
     pub impls: &'a [Impl],
+    pub rules: &'a [RuleOf<I>],
     pub ids: &'a [I::Id],
     pub names: &'a [I::Name],
     // The list without ids, which typing modes name.
@@ -332,6 +335,7 @@ fn ask<I: SizedKeys>(ctx: &mut RefCtxt<I>, terms: &Ready<I>, question: &Question
     requires lawful { IsLawful (I.meaning ctx.old.interner) ctx.old.inner }
     requires ready { AllReady (I.meaning ctx.old.interner) terms.now }
     requires fit { AllFit (I.meaning ctx.old.interner) terms.now }
+    requires made { AllMade (I.meaning ctx.old.interner) terms.now }
     ensures lawful { IsLawful (I.meaning ctx.new.interner) ctx.new.inner }
     ensures grown { Extends (I.meaning ctx.old.interner) (I.meaning ctx.new.interner) }
     ensures known { let m = I.meaning ctx.new.interner in
@@ -434,6 +438,7 @@ fn ask_in<I: SizedKeys>(ctx: &mut RefCtxt<I>, terms: &Ready<I>, question: &Quest
     requires lawful { IsLawful (I.meaning ctx.old.interner) ctx.old.inner }
     requires ready { AllReady (I.meaning ctx.old.interner) terms.now }
     requires fit { AllFit (I.meaning ctx.old.interner) terms.now }
+    requires made { AllMade (I.meaning ctx.old.interner) terms.now }
     ensures lawful { IsLawful (I.meaning ctx.new.interner) ctx.new.inner }
     ensures grown { Extends (I.meaning ctx.old.interner) (I.meaning ctx.new.interner) }
     ensures known { let m = I.meaning ctx.new.interner in
@@ -454,6 +459,7 @@ fn ask_often<I: SizedKeys>(
     requires lawful { IsLawful (I.meaning ctx.interner) ctx.inner }
     requires ready { AllReady (I.meaning ctx.interner) terms.now }
     requires fit { AllFit (I.meaning ctx.interner) terms.now }
+    requires made { AllMade (I.meaning ctx.interner) terms.now }
     ensures lawful { IsLawful (I.meaning result.0.interner) result.0.inner }
     ensures grown { Extends (I.meaning ctx.interner) (I.meaning result.0.interner) }
     ensures known { let m = I.meaning result.0.interner in
@@ -479,6 +485,7 @@ pub(super) fn ask_unless<I: SizedKeys>(
     requires lawful { IsLawful (I.meaning ctx.interner) ctx.inner }
     requires ready { AllReady (I.meaning ctx.interner) terms.now }
     requires fit { AllFit (I.meaning ctx.interner) terms.now }
+    requires made { AllMade (I.meaning ctx.interner) terms.now }
     ensures lawful { IsLawful (I.meaning result.0.interner) result.0.inner }
     ensures grown { Extends (I.meaning ctx.interner) (I.meaning result.0.interner) }
     ensures known { let m = I.meaning result.0.interner in

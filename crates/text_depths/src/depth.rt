@@ -1,6 +1,6 @@
 //! How deep what a question comes to may be, so that the stack holds it.
 
-use crate::opening::opened_levels;
+use crate::opening::{deepest_opened, opened_levels};
 use crate::parts::{Sought, level_at, levels_to, one, push_parts, push_range, push_said};
 use std::alloc::{AllocError, Global};
 use text_reading::naming::{
@@ -195,6 +195,8 @@ pub struct Depths {
     alloc: Global,
     // Of each term how many levels lead to a variable.
     open: Vec<usize>,
+    // How many do in the first impls at most, by how many these are.
+    opened: Vec<usize>,
     search: Search,
     // How many terms a chain of bindings may lead through.
     chained: usize,
@@ -217,9 +219,11 @@ impl Depths {
             Vec::new(alloc)
         };
         let marks = vec![in alloc; 0; open.len()]?;
+        let opened = deepest_opened(alloc, program)?;
         Ok(Depths {
             alloc,
             open,
+            opened,
             search: Search {
                 marks,
                 search: 0,
@@ -304,7 +308,7 @@ impl Depths {
         push_related(program, &question.kind, &mut roots)?;
         let found = self.find(program, &roots)?;
         let before = self.chained.saturating_mul(if found.fresh { 2 } else { 1 });
-        let opened = opened_levels(self.alloc, program, &question.kind, self.budget)?;
+        let opened = opened_levels(&self.opened, &question.kind, self.budget);
         let chained = before.saturating_add(found.open).saturating_add(opened);
         if chained > MOST {
             return Ok(false);

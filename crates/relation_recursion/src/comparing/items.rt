@@ -66,8 +66,5 @@ pub fn compare_alias_terms<I: Interner>(
 fn is_opaque<D>(kind: &AliasTermKind<D>) -> bool
     ensures { result ≡ is_opaque_kind (alias_term_kind kind.now) }
 {
-    match kind {
-        AliasTermKind::OpaqueTy { .. } => true,
-        _ => false,
-    }
+    matches!(kind, AliasTermKind::OpaqueTy { .. })
 }

@@ -4,17 +4,23 @@ use Rattle.text_asking.proofs.AskingLemmas.{ready_stays}
 use Rattle.text_asking.proofs.proving.proof_of.Goals as goal
 
 pub perhaps_of-requires : goal.perhaps_of-requires
-perhaps_of-requires g c =
-    ready_stays c.goal_of.ensures.grown c.args.terms.now.built.now c.requires
+perhaps_of-requires g c = record {
+  ready = ready_stays c.goal_of.ensures.grown c.args.terms.now.built.now c.requires.ready;
+  made = rules_later c.goal_of.ensures.grown c.args.terms.now.rules.now c.requires.made;
+}
 
 pub rules_of-requires : goal.rules_of-requires
 rules_of-requires g c =
-    ready_stays (extends_on c.goal_of.ensures.grown c.perhaps_of.ensures.grown) c.args.terms.now.built.now c.requires
+    let later = extends_on c.goal_of.ensures.grown c.perhaps_of.ensures.grown in
+    record {
+      ready = ready_stays later c.args.terms.now.built.now c.requires.ready;
+      made = rules_later later c.args.terms.now.rules.now c.requires.made;
+    }
 
 pub environment_of-requires : goal.environment_of-requires
 environment_of-requires g c =
     ready_stays (extends_on (extends_on c.goal_of.ensures.grown c.perhaps_of.ensures.grown) c.rules_of.ensures.grown)
-    c.args.terms.now.built.now c.requires
+    c.args.terms.now.built.now c.requires.ready
 
 pub returns-in_err-perhaps-clause-grown : goal.returns-in_err-perhaps-clause-grown
 returns-in_err-perhaps-clause-grown g c = extends_on c.goal_of.ensures.grown c.perhaps_of.ensures.grown
