@@ -177,7 +177,7 @@ module _ {Key Id Name : Type 0} where
     rules_before [] (r ∷ rs) h f = absurd f
     rules_before (k ∷ ks) [] h f = absurd f
 
-    first_order_rules_before : (ks : List (KeyedRule Key)) (rs : List Rule) → All (MayUse c) ks →
+    pub first_order_rules_before : (ks : List (KeyedRule Key)) (rs : List Rule) → All (MayUse c) ks →
         AllZip (IsFirstOrderRule d) ks rs → AllZip (IsFirstOrderRule c) ks rs
     first_order_rules_before [] [] h f = tt
     first_order_rules_before (k ∷ ks) (r ∷ rs) h f = (

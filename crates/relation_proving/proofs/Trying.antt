@@ -26,10 +26,11 @@ use Rattle.relation_proving.specs.Candidates.{TellsOpened, ClausesMeet, MayAsk, 
 use Rattle.relation_proving.specs.Candidates.{AsksFor, OpensAsking, GaveWay}
 use Rattle.relation_proving.specs.RuleTerms.{MayUse, IsRuleOf, GivesWayTo, OpensRule, held_of}
 use Rattle.relation_proving.specs.Telling.{GoesOn, IsBack, IsExact}
-use Rattle.relation_proving.specs.Shadowing.{candidate_unless, TellsStanding, MetFirst, TellsGivingWay, TellsCandidate}
+use Rattle.relation_proving.specs.Shadowing.{candidate_unless, AlwaysUnified, TellsStanding, TellsGivingWay}
+use Rattle.relation_proving.specs.Shadowing.{TellsCandidate}
 use Rattle.relation_proving.proofs.Candidates.{may_ask, asks_any, asks_for, gave_way, gives_none, first_order_then}
 use Rattle.relation_proving.proofs.Candidates.{found, others, shadows_first_order}
-use Rattle.relation_proving.proofs.GoingOn.{goes_through, back_goes, rules_on, exact_on}
+use Rattle.relation_proving.proofs.GoingOn.{goes_through, back_goes, goal_stays, rules_on, exact_on, rules_before, first_order_rules_before}
 
 none_both : {X : Type 0} (kind : RuleKind) (xs : List X) (ts : List Tree) → xs ≡ [] → GivesWayTo kind xs →
     GivesWayTo kind ts → ts ≡ []
@@ -97,98 +98,82 @@ module _ {Key Id Name : Type 0} where
       opened : OpensRule c d rule (given ∷ ((clause ∷ []) ++ asks))
       opened = subst (OpensRule c d rule) is o
 
-      module _ (v : Vec (ClauseKey Key)) (told : Standing) (m : MetFirst d e ks env g given clause asks v told) where
-        abbrev middle : Context Key Id Name
-        middle = m.middle
+      clause_is : (e.meaning).clause clause ≡ (d.meaning).clause clause
+      clause_is = (then.grown).clause clause known_clause
 
-        same_store : (middle).store ≡ e.store
-        same_store = sym ((m.back).same).store
+      on_then : GoesOn c e
+      on_then = goes_through c d e on then
 
-        clause_is : ((middle).meaning).clause clause ≡ (d.meaning).clause clause
-        clause_is = ((m.goes_on).grown).clause clause known_clause
+      module _ (r : Rule) (f : IsRuleOf c rule r) where
+        vars : List Tree
+        vars = (found c d e rule g given (clause ∷ []) asks kinds opened on.grown then.grown then.later env known_g r f).0
 
-        met : ClausesMeet d e env ((d.meaning).clause g) ((d.meaning).clause given)
-        met = meets_on d middle e env ((d.meaning).clause g) ((d.meaning).clause given) same_store (m.met).1
+        shadows : All (λ t. inst vars 0 t ≡ (d.meaning).clause clause) r.shadowed_by
+        shadows = all_one (d.meaning).clause clause (inst vars 0) r.shadowed_by
+            (others c d e rule g given (clause ∷ []) asks kinds opened on.grown then.grown then.later env known_g r f).0
 
-        on_middle : GoesOn c middle
-        on_middle = goes_through c d middle on m.goes_on
+        is_clause : (t : Tree) → Contains r.shadowed_by t → (e.meaning).clause clause ≡ inst vars 0 t
+        is_clause t i = clause_is ∙ sym (All-contains (λ t. inst vars 0 t ≡ (d.meaning).clause clause) r.shadowed_by t
+            shadows i)
 
-        module _ (r : Rule) (f : IsRuleOf c rule r) where
-          vars : List Tree
-          vars = (found c d e rule g given (clause ∷ []) asks kinds opened on.grown then.grown then.later env known_g r f).0
+        one : (t : Tree) × (r.shadowed_by ≡ t ∷ [])
+        one = subst (λ k. GivesWayTo k r.shadowed_by) kind_is (f.is_rule).gives_way_to
 
-          shadows : All (λ t. inst vars 0 t ≡ (d.meaning).clause clause) r.shadowed_by
-          shadows = all_one (d.meaning).clause clause (inst vars 0) r.shadowed_by
-              (others c d e rule g given (clause ∷ []) asks kinds opened on.grown then.grown then.later env known_g r f).0
+        has_one : Contains r.shadowed_by (one).0
+        has_one = subst (λ z. Contains z (one).0) (sym (one).1)
+            (All-head (Contains ((one).0 ∷ [])) (one).0 [] (All-contains_itself ((one).0 ∷ [])))
 
-          is_clause : (t : Tree) → Contains r.shadowed_by t → ((middle).meaning).clause clause ≡ inst vars 0 t
-          is_clause t i = clause_is ∙ sym (All-contains (λ t. inst vars 0 t ≡ (d.meaning).clause clause) r.shadowed_by t
-              shadows i)
+        stands_exactly : (rs : List Rule) → AllZip (IsRuleOf c) ks rs → TellsStanding e ks clause standing.First →
+            StandsExactly (held_of ks rs) e.store r vars
+        stands_exactly rs x t cl had i j = subst (λ z. NoEqualTerms e.store had z) (is_clause cl i)
+            (t.0 rs (rules_on c e on_then ks rs uses x) had j)
 
-          one : (t : Tree) × (r.shadowed_by ≡ t ∷ [])
-          one = subst (λ k. GivesWayTo k r.shadowed_by) kind_is (f.is_rule).gives_way_to
+      module _ (met : ClausesMeet d e env ((d.meaning).clause g) ((d.meaning).clause given)) (u : ℕ) (rs : List Rule)
+          (r : Rule) (x : IsExact u c ks rs) (may : MayTry c rule g u r) where
+        abbrev f : IsRuleOf c rule r
+        f = (may.rule).rule
 
-          has_one : Contains r.shadowed_by (one).0
-          has_one = subst (λ z. Contains z (one).0) (sym (one).1)
-              (All-head (Contains ((one).0 ∷ [])) (one).0 [] (All-contains_itself ((one).0 ∷ [])))
+        exact_then : IsExact u e ks rs
+        exact_then = exact_on c e on_then ks u rs uses (first_order_then c d e rule g given (clause ∷ []) asks kinds
+            opened on.grown then.grown then.later env known_g r u may met) x
 
-          stands_exactly : (rs : List Rule) → AllZip (IsRuleOf c) ks rs → TellsStanding middle ks clause standing.First →
-              StandsExactly (held_of ks rs) e.store r vars
-          stands_exactly rs x t cl had i j = subst₂ (λ y z. NoEqualTerms y had z) same_store (is_clause cl i)
-              (t.0 rs (rules_on c middle on_middle ks rs uses x) had j)
+        clause_first_order : IsFirstOrderClause ((e.meaning).clause clause)
+        clause_first_order = subst IsFirstOrderClause (sym (is_clause r f (one r f).0 (has_one r f)))
+            (All-contains (λ t. IsFirstOrderClause (inst (vars r f) 0 t)) r.shadowed_by (one r f).0
+            (shadows_first_order c d e rule g given (clause ∷ []) asks kinds opened on.grown then.grown then.later env
+            known_g r u may) (has_one r f))
 
-        module _ (u : ℕ) (rs : List Rule) (r : Rule) (x : IsExact u c ks rs) (may : MayTry c rule g u r) where
-          abbrev f : IsRuleOf c rule r
-          f = (may.rule).rule
+        stands_first : TellsStanding e ks clause standing.First → StandsFirst (held_of ks rs) e.store r (vars r f)
+        stands_first t cl had i j = subst (λ z. NoUnifier e.store had z) (is_clause r f cl i)
+            (t.1 u rs exact_then clause_first_order had j)
 
-          then_first_order : IsFirstOrderAt u e.store
-          then_first_order = first_order_then c d e rule g given (clause ∷ []) asks kinds opened on.grown then.grown
-              then.later env known_g r u may met
+        gives_way : TellsStanding e ks clause standing.GivesWay → GaveWay c rule g u (held_of ks rs) r
+        gives_way t =
+            let w = t u rs exact_then clause_first_order in
+            gave_way c d e rule g given (clause ∷ []) asks kinds opened on.grown then.grown then.later env known_g r u may
+            (held_of ks rs) (record {
+              clause = (one r f).0;
+              had = w.0;
+              of_rule = has_one r f;
+              of_environment = w.1;
+              same = λ s h. subst (Unifies s w.0) (is_clause r f (one r f).0 (has_one r f)) (w.2 s h);
+            }) met
 
-          exact_then : IsExact u middle ks rs
-          exact_then = exact_on c middle on_middle ks u rs uses
-              (subst (IsFirstOrderAt u) (sym same_store) then_first_order) x
-
-          clause_first_order : IsFirstOrderClause (((middle).meaning).clause clause)
-          clause_first_order = subst IsFirstOrderClause (sym (is_clause r f (one r f).0 (has_one r f)))
-              (All-contains (λ t. IsFirstOrderClause (inst (vars r f) 0 t)) r.shadowed_by (one r f).0
-              (shadows_first_order c d e rule g given (clause ∷ []) asks kinds opened on.grown then.grown then.later env
-              known_g r u may) (has_one r f))
-
-          stands_first : TellsStanding middle ks clause standing.First →
-              StandsFirst (held_of ks rs) e.store r (vars r f)
-          stands_first t cl had i j = subst₂ (λ y z. NoUnifier y had z) same_store (is_clause r f cl i)
-              (t.1 u rs exact_then clause_first_order had j)
-
-          gives_way : TellsStanding middle ks clause standing.GivesWay → GaveWay c rule g u (held_of ks rs) r
-          gives_way t =
-              let w = t u rs exact_then clause_first_order in
-              gave_way c d e rule g given (clause ∷ []) asks kinds opened on.grown then.grown then.later env known_g r u may
-              (held_of ks rs) (record {
-                clause = (one r f).0;
-                had = w.0;
-                of_rule = has_one r f;
-                of_environment = w.1;
-                same = λ s h. subst (Unifies s w.0) (is_clause r f (one r f).0 (has_one r f))
-                    (w.2 s (subst (λ z. IsErasedSolution z s) (sym same_store) h));
-              }) met
-
-      pub told_giving : (x : Candidate Key) → TellsGivingWay d e ks env g given clause asks x →
+      told_giving : (x : Candidate Key) → TellsGivingWay d e ks env g given clause asks x →
           TellsCandidate c ks env rule g e x
       told_giving (candidate.Asks v) t = (
-        subst (λ z. All (MayAsk e) z) (sym (t.met).0)
+        subst (λ z. All (MayAsk e) z) (sym (t.0).0)
             (may_ask c d e rule g given (clause ∷ []) asks kinds opened on.grown then.grown then.later),
-        λ u rs r x may. subst (λ z. AsksFor c rule g u e (held_of ks rs) r z) (sym (t.met).0)
+        λ u rs r x may. subst (λ z. AsksFor c rule g u e (held_of ks rs) r z) (sym (t.0).0)
             (asks_for c d e rule g given (clause ∷ []) asks kinds opened on.grown then.grown then.later env known_g r u may
-            (held_of ks rs) (stands_first v standing.First t u rs r x may t.standing) (met v standing.First t)),
-        λ rs r x f. subst (λ z. OpensAsking c e env g (held_of ks rs) r z) (sym (t.met).0)
+            (held_of ks rs) (stands_first (t.0).1 u rs r x may t.1) (t.0).1),
+        λ rs r x f. subst (λ z. OpensAsking c e env g (held_of ks rs) r z) (sym (t.0).0)
             (asks_any c d e rule g given (clause ∷ []) asks kinds opened on.grown then.grown then.later env known_g r f
-            (held_of ks rs) (stands_exactly v standing.First t r f rs x t.standing) known_env (met v standing.First t)),
+            (held_of ks rs) (stands_exactly r f rs x t.1) known_env (t.0).1),
       )
       told_giving candidate.Apart t = λ u r may.
           gives_none c d e rule g given (clause ∷ []) asks kinds opened on.grown then.grown then.later env known_g r u may t
-      told_giving candidate.GivesWay t = λ u rs r x may.
-          gives_way t.0 standing.GivesWay t.1 u rs r x may (t.1).standing
+      told_giving candidate.GivesWay t = λ u rs r x may. gives_way t.0 u rs r x may t.1
       told_giving candidate.Unclear t = tt
 
     pub plain_result : {F : Type 0} (asks : List (ClauseKey Key)) → GivesWayTo {T = ClauseKey Key} rule.kind [] →
@@ -205,13 +190,45 @@ module _ {Key Id Name : Type 0} where
         told_giving kind clause asks is e then known_clause x t
     giving_result kind clause asks is e then known_clause (Err f) t = tt
 
+  -- What is told of a clause is told of it in a context that is back.
+  module _ (c d : Context Key Id Name) (b : IsBack c d) (ks : List (KeyedRule Key)) (g : ClauseKey Key)
+      (uses : All (MayUse c) ks) (may : MayAsk c g) where
+    same_store : c.store ≡ d.store
+    same_store = sym (b.same).store
+
+    stays : (c.meaning).clause g ≡ (d.meaning).clause g
+    stays = sym (goal_stays c d (back_goes c d b) g may)
+
+    exact_then : (u : ℕ) (rs : List Rule) → IsExact u d ks rs → IsExact u c ks rs
+    exact_then u rs x = record {
+      store = subst (IsFirstOrderAt u) (sym same_store) x.store;
+      rules = first_order_rules_before c d (back_goes c d b) ks rs uses x.rules;
+    }
+
+    standing_back : (x : Standing) → TellsStanding c ks g x → TellsStanding d ks g x
+    standing_back standing.First t = (
+      λ rs z h i. subst₂ (λ x y. NoEqualTerms x h y) same_store stays
+          (t.0 rs (rules_before c d (back_goes c d b) ks rs uses z) h i),
+      λ u rs x f h i. subst₂ (λ x y. NoUnifier x h y) same_store stays
+          (t.1 u rs (exact_then u rs x) (subst IsFirstOrderClause (sym stays) f) h i),
+    )
+    standing_back standing.GivesWay t = λ u rs x f.
+        let w = t u rs (exact_then u rs x) (subst IsFirstOrderClause (sym stays) f) in
+        (w.0, w.1, subst₂ (λ x y. AlwaysUnified x w.0 y) same_store stays w.2)
+    standing_back standing.Unclear t = tt
+
   -- Of a goal and an opened rule that gives way to a clause, by what is told of both.
   pub giving_told : (c d e : Context Key Id Name) (ks : List (KeyedRule Key)) (env : ParamEnvKey Key)
-      (g given clause : ClauseKey Key) (asks : List (ClauseKey Key)) (v : Vec (ClauseKey Key)) → GoesOn c d → IsBack d e →
-      TellsOpened c d env g given asks (candidate.Asks v) → (x : Standing) → TellsStanding d ks clause x →
-      TellsGivingWay c e ks env g given clause asks (candidate_unless v x)
-  giving_told c d e ks env g given clause asks v on back met standing.First t =
-      record { middle = d; met = met; goes_on = on; back = back; standing = t }
-  giving_told c d e ks env g given clause asks v on back met standing.GivesWay t =
-      (v, record { middle = d; met = met; goes_on = on; back = back; standing = t })
-  giving_told c d e ks env g given clause asks v on back met standing.Unclear t = tt
+      (g given clause : ClauseKey Key) (asks : List (ClauseKey Key)) (v : Vec (ClauseKey Key)) (b : IsBack d e) →
+      All (MayUse d) ks → MayAsk d clause → TellsOpened c d env g given asks (candidate.Asks v) → (x : Standing) →
+      TellsStanding d ks clause x → TellsGivingWay c e ks env g given clause asks (candidate_unless v x)
+  giving_told c d e ks env g given clause asks v b uses may met x t = go x (standing_back d e b ks clause uses may x t)
+    where
+      then : ClausesMeet c e env ((c.meaning).clause g) ((c.meaning).clause given)
+      then = meets_on c d e env ((c.meaning).clause g) ((c.meaning).clause given) (sym (b.same).store) met.1
+
+      go : (x : Standing) → TellsStanding e ks clause x →
+          TellsGivingWay c e ks env g given clause asks (candidate_unless v x)
+      go standing.First t = ((met.0, then), t)
+      go standing.GivesWay t = (then, t)
+      go standing.Unclear t = tt

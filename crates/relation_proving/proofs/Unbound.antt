@@ -43,12 +43,6 @@ unbound_within d (bind ks t) w b = unbound_within (suc d) t w b
 unbound_within d nil w b = tt
 unbound_within d (cons t ts) w b = (unbound_within d t w.0 b.0, unbound_within d ts w.1 b.1)
 
--- A list that is found empty is that of a binder that binds nothing.
-pub no_kinds : {Key Id Name : Type 0} (m : Meaning Key Id Name) (v : BoundVarsKey Key)
-    (vs : List (BoundVariableKind Name)) → m.bound_vars v ≡ Some (bound_kinds m vs) → (empty : Bool) →
-    empty ≡ (length vs == 0) → IsTrue empty → m.bound_vars v ≡ Some []
-no_kinds m v vs e empty i t = e ∙ list_empty (bound_kind_of m) vs (sym i ∙ t)
-
 pub body_in : (st : Store) (t : Tree) → IsTermIn st (bind [] t) → IsWellBound (bind [] t) → IsTermIn st t
 unfolding IsTermIn InContext
 body_in st t h w = (h.0, unbound_within 0 t h.1 w.0, h.2)
@@ -61,6 +55,12 @@ list_empty f (x ∷ xs) e = let none = eqb-true (length (x ∷ xs)) 0 e in absur
 list_filled : {X Y : Type 0} (f : X → Y) (xs : List X) → (length xs == 0) ≡ false → Some (map f xs) ≡ Some [] → ⊥
 list_filled f [] e p = true≢false e
 list_filled f (x ∷ xs) e p = cc
+
+-- A list that is found empty is that of a binder that binds nothing.
+pub no_kinds : {Key Id Name : Type 0} (m : Meaning Key Id Name) (v : BoundVarsKey Key)
+    (vs : List (BoundVariableKind Name)) → m.bound_vars v ≡ Some (bound_kinds m vs) → (empty : Bool) →
+    empty ≡ (length vs == 0) → IsTrue empty → m.bound_vars v ≡ Some []
+no_kinds m v vs e empty i t = e ∙ list_empty (bound_kind_of m) vs (sym i ∙ t)
 
 module _ {Key Id Name : Type 0} (m : Meaning Key Id Name) (b : Binder Key (ClauseKind Key Id Name))
     (vars : List (BoundVariableKind Name)) (e : m.bound_vars b.bound_vars ≡ Some (bound_kinds m vars)) where

@@ -22,7 +22,7 @@ use Rattle.relation_solver.specs.Rules.{Rule}
 use Rattle.relation_proving.specs.RuleTerms.{IsRuleOf, held_of}
 use Rattle.relation_proving.specs.Candidates.{IsFirstOrderClause, AreFirstOrder, ClausesAreApart, ClausesMeet, MayAsk}
 use Rattle.relation_proving.specs.Candidates.{MayTry, TellsOpened, AsksFor, GivesNone, GaveWay, OpensAsking}
-use Rattle.relation_proving.specs.Telling.{GoesOn, IsBack, IsExact}
+use Rattle.relation_proving.specs.Telling.{IsExact}
 use Rattle.relation_proving.specs.declared.opening.KeyedRule.{KeyedRule}
 use Rattle.relation_proving.specs.declared.fitting.Fitting.{Fitting}
 use Rattle.relation_proving.specs.declared.fitting.Fitting.TheVariants.{Fits, Apart as ToldApart, Left}
@@ -92,16 +92,11 @@ module _ {Key Id Name : Type 0} (c : Context Key Id Name) where
 -- what the environment has of the clause was told; or nothing makes them one.
 module _ {Key Id Name : Type 0} (c d : Context Key Id Name) (ks : List (KeyedRule Key)) (e : ParamEnvKey Key)
     (g given clause : ClauseKey Key) (asks : List (ClauseKey Key)) where
-  pub record MetFirst (v : Vec (ClauseKey Key)) (told : Standing) : Type 0 where
-    pub middle : Context Key Id Name
-    pub met : TellsOpened c middle e g given asks (candidate.Asks v)
-    pub goes_on : GoesOn c middle
-    pub back : IsBack middle d
-    pub standing : TellsStanding middle ks clause told
-
   abbrev pub TellsGivingWay : Candidate Key → Type 0
-  TellsGivingWay (candidate.Asks v) = MetFirst v First
-  TellsGivingWay candidate.GivesWay = (v : Vec (ClauseKey Key)) × MetFirst v GivesWay
+  TellsGivingWay (candidate.Asks v) = TellsOpened c d e g given asks (candidate.Asks v) ×
+      TellsStanding d ks clause First
+  TellsGivingWay candidate.GivesWay = ClausesMeet c d e ((c.meaning).clause g) ((c.meaning).clause given) ×
+      TellsStanding d ks clause GivesWay
   TellsGivingWay candidate.Apart = ClausesAreApart c.store ((c.meaning).clause g) ((c.meaning).clause given)
   TellsGivingWay candidate.Unclear = Unit {0}
 
