@@ -267,16 +267,16 @@ contains_behind Plain t ts x c = c
 contains_behind GivesWay t ts x c = c
 
 module _ {Key : Type 0} where
-  held_there : {R : KeyedRule Key → Rule → Type 0} (ks : List (KeyedRule Key)) (rs : List Rule) (i : ℕ)
+  held_there : (R : KeyedRule Key → Rule → Type 0) (ks : List (KeyedRule Key)) (rs : List Rule) (i : ℕ)
       (k : KeyedRule Key) (r : Rule) → AllZip R ks rs → i < length ks → (get_or ks i k).kind ≡ Held →
       Contains (held_of ks rs) (get_or rs i r).gives
-  held_there [] rs i k r z l e = let below : i < 0 = l in absurd (omega (arith, below))
-  held_there (x ∷ xs) [] i k r z l e = absurd z
-  held_there (x ∷ xs) (y ∷ ys) zero k r z l e = contains_with x.kind y.gives (held_of xs ys) e
-  held_there (x ∷ xs) (y ∷ ys) (suc i) k r z l e =
+  held_there R [] rs i k r z l e = let below : i < 0 = l in absurd (omega (arith, below))
+  held_there R (x ∷ xs) [] i k r z l e = absurd z
+  held_there R (x ∷ xs) (y ∷ ys) zero k r z l e = contains_with x.kind y.gives (held_of xs ys) e
+  held_there R (x ∷ xs) (y ∷ ys) (suc i) k r z l e =
       let below : suc i < suc (length xs) = l in
       contains_behind x.kind y.gives (held_of xs ys) (get_or ys i r).gives
-      (held_there xs ys i k r z.1 (omega (arith, below)) e)
+      (held_there R xs ys i k r z.1 (omega (arith, below)) e)
 
 module _ {Key Id Name : Type 0} (c : Context Key Id Name) (g : ClauseKey Key) where
   -- What is told of a clause by the rules so far.
@@ -341,6 +341,6 @@ module _ {Key Id Name : Type 0} (c : Context Key Id Name) (g : ClauseKey Key) wh
       let z = subst (λ y. IsFirstOrderRule c y (get_or rs i none)) (sym is)
       (zip_at (IsFirstOrderRule c) ks rs i k none x.rules l) in (
         (get_or rs i none).gives,
-        held_there {R = IsFirstOrderRule c} ks rs i k none x.rules l (subst (λ y. y.kind ≡ Held) is e),
+        held_there (IsFirstOrderRule c) ks rs i k none x.rules l (subst (λ y. y.kind ≡ Held) is e),
         t u (get_or rs i none) (record { store = x.store; rule = z; goal = f }),
       )

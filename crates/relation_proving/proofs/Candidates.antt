@@ -1,6 +1,7 @@
 -- A rule that was tried for a goal: what is told of its opened clauses, as what a trace says of it.
 use Rattle.std.proofs.Common.{◌≡◌, ℕ, List, [], ◌∷◌, ◌++◌, refl, sym, ◌∙◌, ap, ap₂, subst, subst₂, map, All}
-use Rattle.std.proofs.Common.{IsTrue, map-append}
+use Rattle.std.proofs.Common.{IsTrue}
+use Rattle.std.proofs.lemmas.List.{map-append}
 use Rattle.std.specs.Global.{Vec}
 use Rattle.std.proofs.lemmas.List.Elements.{All-nil, All-cons, All-head, All-tail}
 use Rattle.relation_terms.specs.declared.terms.keys.ClauseKey.{ClauseKey}
@@ -67,6 +68,13 @@ images_way Plain f ts h = ap (map f) h
 images_way Held f ts h = ap (map f) h
 images_way GivesWay f ts h = (f h.0, ap (map f) h.1)
 
+-- Lists that a rule gives way to and asks for, as its kind has it, and their trees.
+lists_same : {T : Type 0} (kind : RuleKind) (f : T → Tree) (xs ys : List T) (us vs : List Tree) →
+    GivesWayTo kind xs → GivesWayTo kind us → map f (xs ++ ys) ≡ us ++ vs → (map f xs ≡ us) × (map f ys ≡ vs)
+lists_same Plain f xs ys us vs h i e = none_before f xs ys us vs h i e
+lists_same Held f xs ys us vs h i e = none_before f xs ys us vs h i e
+lists_same GivesWay f xs ys us vs h i e = one_before f xs ys us vs h.0 i.0 h.1 i.1 e
+
 module _ {Key Id Name : Type 0} where
   -- Known clauses mean what they meant.
   pub clauses_stay : (m n : Meaning Key Id Name) → Extends m n → (ks : List (ClauseKey Key)) →
@@ -75,13 +83,6 @@ module _ {Key Id Name : Type 0} where
   clauses_stay m n e (k ∷ ks) h = ap₂ (λ a b. a ∷ b)
       (e.clause k (All-head (λ k. IsTrue (known (m.clause k))) k ks h))
       (clauses_stay m n e ks (All-tail (λ k. IsTrue (known (m.clause k))) k ks h))
-
-  -- Lists that a rule gives way to and asks for, as its kind has it, and their trees.
-  lists_same : {T : Type 0} (kind : RuleKind) (f : T → Tree) (xs ys : List T) (us vs : List Tree) →
-      GivesWayTo kind xs → GivesWayTo kind us → map f (xs ++ ys) ≡ us ++ vs → (map f xs ≡ us) × (map f ys ≡ vs)
-  lists_same Plain f xs ys us vs h i e = none_before f xs ys us vs h i e
-  lists_same Held f xs ys us vs h i e = none_before f xs ys us vs h i e
-  lists_same GivesWay f xs ys us vs h i e = one_before f xs ys us vs h.0 i.0 h.1 i.1 e
 
   module _ (c d e : Context Key Id Name) (rule : KeyedRule Key) (g given : ClauseKey Key)
       (before asks : List (ClauseKey Key)) (kinds : GivesWayTo rule.kind before)
@@ -128,7 +129,7 @@ module _ {Key Id Name : Type 0} where
       goal_tree = sym (grown.clause g g_known)
 
       module _ (f : IsRuleOf c rule r) where
-        found : (vars : List Tree) × Opens (c.store).universe c.store d.store r vars ×
+        pub found : (vars : List Tree) × Opens (c.store).universe c.store d.store r vars ×
             (map (d.meaning).clause (given ∷ (before ++ asks)) ≡
             map (inst vars 0) (r.gives ∷ (r.shadowed_by ++ r.asks)))
         found = opened.by_variables f.closed r f.is_rule
@@ -136,7 +137,7 @@ module _ {Key Id Name : Type 0} where
         gives_tree : inst (found).0 0 r.gives ≡ b
         gives_tree = sym (list_first (found).2)
 
-        others : (map (d.meaning).clause before ≡ map (inst (found).0 0) r.shadowed_by) ×
+        pub others : (map (d.meaning).clause before ≡ map (inst (found).0 0) r.shadowed_by) ×
             (map (d.meaning).clause asks ≡ map (inst (found).0 0) r.asks)
         others = lists_same rule.kind (d.meaning).clause before asks (map (inst (found).0 0) r.shadowed_by)
             (map (inst (found).0 0) r.asks) kinds (images_way rule.kind (inst (found).0 0) r.shadowed_by
@@ -269,9 +270,9 @@ module _ {Key Id Name : Type 0} where
 
   -- So may the second one.
   pub second_may : (c d : Context Key Id Name) (rule : KeyedRule Key) (given clause : ClauseKey Key)
-      (clauses others asks : List (ClauseKey Key)) → clauses ≡ given ∷ others → others ≡ clause ∷ asks →
+      (clauses behind asks : List (ClauseKey Key)) → clauses ≡ given ∷ behind → behind ≡ clause ∷ asks →
       OpensRule c d rule clauses → MayAsk d clause
-  second_may c d rule given clause clauses others asks is then o =
+  second_may c d rule given clause clauses behind asks is then o =
       let opened = subst (OpensRule c d rule) (is ∙ ap (λ z. given ∷ z) then) o in
       let second = λ (P : ClauseKey Key → Type 0) (h : All P (given ∷ clause ∷ asks)).
       All-head P clause asks (All-tail P given (clause ∷ asks) h) in

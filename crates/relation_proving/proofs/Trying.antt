@@ -193,28 +193,28 @@ module _ {Key Id Name : Type 0} where
   -- What is told of a clause is told of it in a context that is back.
   module _ (c d : Context Key Id Name) (b : IsBack c d) (ks : List (KeyedRule Key)) (g : ClauseKey Key)
       (uses : All (MayUse c) ks) (may : MayAsk c g) where
-    same_store : c.store ≡ d.store
-    same_store = sym (b.same).store
+    one_store : c.store ≡ d.store
+    one_store = sym (b.same).store
 
     stays : (c.meaning).clause g ≡ (d.meaning).clause g
     stays = sym (goal_stays c d (back_goes c d b) g may)
 
-    exact_then : (u : ℕ) (rs : List Rule) → IsExact u d ks rs → IsExact u c ks rs
-    exact_then u rs x = record {
-      store = subst (IsFirstOrderAt u) (sym same_store) x.store;
+    exact_in : (u : ℕ) (rs : List Rule) → IsExact u d ks rs → IsExact u c ks rs
+    exact_in u rs x = record {
+      store = subst (IsFirstOrderAt u) (sym one_store) x.store;
       rules = first_order_rules_before c d (back_goes c d b) ks rs uses x.rules;
     }
 
     standing_back : (x : Standing) → TellsStanding c ks g x → TellsStanding d ks g x
     standing_back standing.First t = (
-      λ rs z h i. subst₂ (λ x y. NoEqualTerms x h y) same_store stays
+      λ rs z h i. subst₂ (λ x y. NoEqualTerms x h y) one_store stays
           (t.0 rs (rules_before c d (back_goes c d b) ks rs uses z) h i),
-      λ u rs x f h i. subst₂ (λ x y. NoUnifier x h y) same_store stays
-          (t.1 u rs (exact_then u rs x) (subst IsFirstOrderClause (sym stays) f) h i),
+      λ u rs x f h i. subst₂ (λ x y. NoUnifier x h y) one_store stays
+          (t.1 u rs (exact_in u rs x) (subst IsFirstOrderClause (sym stays) f) h i),
     )
     standing_back standing.GivesWay t = λ u rs x f.
-        let w = t u rs (exact_then u rs x) (subst IsFirstOrderClause (sym stays) f) in
-        (w.0, w.1, subst₂ (λ x y. AlwaysUnified x w.0 y) same_store stays w.2)
+        let w = t u rs (exact_in u rs x) (subst IsFirstOrderClause (sym stays) f) in
+        (w.0, w.1, subst₂ (λ x y. AlwaysUnified x w.0 y) one_store stays w.2)
     standing_back standing.Unclear t = tt
 
   -- Of a goal and an opened rule that gives way to a clause, by what is told of both.

@@ -27,3 +27,28 @@ standing_of-requires g c =
       may = proves_on s d on c.args.rules.now c.args.param_env c.requires.may;
       clause = ask_on s d on c.args.clause.now c.requires.clause;
     }
+
+pub returns-in_err-standing-in-Asks-clause-later : goal.returns-in_err-standing-in-Asks-clause-later
+returns-in_err-standing-in-Asks-clause-later g c = later_through c.try_opened.ensures.later c.standing_of.ensures.later
+
+pub returns-in_err-standing-in-Asks-clause-grown : goal.returns-in_err-standing-in-Asks-clause-grown
+returns-in_err-standing-in-Asks-clause-grown g c = extends_on c.try_opened.ensures.grown c.standing_of.ensures.grown
+
+pub returns-in_ok-standing-in-Asks-clause-grown : goal.returns-in_ok-standing-in-Asks-clause-grown
+returns-in_ok-standing-in-Asks-clause-grown g c = extends_on c.try_opened.ensures.grown c.standing_of.ensures.grown
+
+pub returns-in_ok-standing-in-Asks-clause-tells : goal.returns-in_ok-standing-in-Asks-clause-tells
+returns-in_ok-standing-in-Asks-clause-tells g c =
+    let s = g.C.InferCtxtLike.state c.args.ctx.now in
+    let d = g.C.InferCtxtLike.state c.try_opened.new.ctx in
+    let e = c.try_opened.ensures in
+    let f = g.C.InferCtxtLike.state c.standing_of.new.ctx in
+    let on : GoesOn s d = record { later = e.later; lawful = e.lawful; grown = e.grown } in
+    subst (TellsGivingWay s f c.args.rules.now c.args.param_env c.args.goal.now c.args.given.now c.args.clause.now
+    c.args.asks.now) (sym c.unless_shadowed.ensures)
+    (giving_told s d f c.args.rules.now c.args.param_env c.args.goal.now c.args.given.now c.args.clause.now
+    c.args.asks.now c.in-Asks.list c.in_ok-standing-in-Asks.ensures.back
+    (proves_on s d on c.args.rules.now c.args.param_env c.requires.may).rules
+    (ask_on s d on c.args.clause.now c.requires.clause)
+    (subst (TellsOpened s d c.args.param_env c.args.goal.now c.args.given.now c.args.asks.now) c.in-Asks.is
+    c.in_ok-list.ensures.tells) c.in_ok-standing-in-Asks.standing c.in_ok-standing-in-Asks.ensures.tells)

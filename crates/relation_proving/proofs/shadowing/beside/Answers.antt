@@ -7,7 +7,7 @@ use Rattle.relation_semantics.proofs.Going.{later_itself, later_through}
 use Rattle.kept_records.proofs.Kept.{may_put_back}
 use Rattle.relation_proving.specs.RuleTerms.{rule_tree, BindsNone}
 use Rattle.relation_proving.specs.Subjects.{GivesAnother}
-use Rattle.relation_proving.specs.Shadowing.{TellsBeside}
+use Rattle.relation_proving.specs.Shadowing.{TellsBeside, standing_by}
 use Rattle.relation_proving.proofs.Beside.{another_never, beside_told_by, binds_on}
 use Rattle.relation_proving.proofs.GoingOn.{back_itself, back_through, back_goes, ask_on, use_on, goes_through}
 use Rattle.relation_proving.proofs.Searches.{put_back_back}
@@ -91,44 +91,25 @@ returns g c =
       lawful = back.lawful;
       grown = back.grown;
       back = back;
-      tells = subst (TellsBeside s c.args.rule c.args.clause.now) (sym c.standing_of_fit.ensures)
+      tells = subst (TellsBeside s c.args.rule c.args.clause.now) (sym (c.standing_of_fit.ensures ∙ ap (standing_by c.in_ok-fitting.fitting) c.is_some.ensures))
           (beside_told_by s d b c.args.rule c.args.clause.now c.requires.rule c.requires.clause
           c.in_ok-fitting.fitting c.in_ok-one.one c.in_ok-one.ensures.one c.in_ok-fitting.ensures.tells);
     }
 
-pub returns-in_err-one : goal.returns-in_err-one
-returns-in_err-one g c =
-    let s = g.C.InferCtxtLike.state c.args.ctx.now in
-    let b = c.in_err-one.ensures.back in
-    record {
-      later = (back_goes s (g.C.InferCtxtLike.state c.comes_to_one.new.ctx) b).later;
-      lawful = b.lawful;
-      grown = b.grown;
-      back = tt;
-      tells = tt;
-    }
+pub returns-in_err-one-clause-later : goal.returns-in_err-one-clause-later
+returns-in_err-one-clause-later g c =
+    (back_goes (g.C.InferCtxtLike.state c.args.ctx.now) (g.C.InferCtxtLike.state c.comes_to_one.new.ctx)
+    c.in_err-one.ensures.back).later
 
-pub returns-in_err-before : goal.returns-in_err-before
-returns-in_err-before g c =
-    let s = g.C.InferCtxtLike.state c.args.ctx.now in
-    let b = c.in_ok-one.ensures.back in
-    record {
-      later = (back_goes s (g.C.InferCtxtLike.state c.comes_to_one.new.ctx) b).later;
-      lawful = b.lawful;
-      grown = b.grown;
-      back = tt;
-      tells = tt;
-    }
+pub returns-in_err-before-clause-later : goal.returns-in_err-before-clause-later
+returns-in_err-before-clause-later g c =
+    (back_goes (g.C.InferCtxtLike.state c.args.ctx.now) (g.C.InferCtxtLike.state c.comes_to_one.new.ctx)
+    c.in_ok-one.ensures.back).later
 
-pub returns-in_err-fitting : goal.returns-in_err-fitting
-returns-in_err-fitting g c =
-    let s = g.C.InferCtxtLike.state c.args.ctx.now in
-    let b = c.in_ok-one.ensures.back in
-    let f = c.in_err-fitting.ensures in
-    record {
-      later = later_through (back_goes s (g.C.InferCtxtLike.state c.comes_to_one.new.ctx) b).later f.later;
-      lawful = f.lawful;
-      grown = extends_on b.grown f.grown;
-      back = tt;
-      tells = tt;
-    }
+pub returns-in_err-fitting-clause-later : goal.returns-in_err-fitting-clause-later
+returns-in_err-fitting-clause-later g c =
+    later_through (back_goes (g.C.InferCtxtLike.state c.args.ctx.now) (g.C.InferCtxtLike.state c.comes_to_one.new.ctx)
+    c.in_ok-one.ensures.back).later c.in_err-fitting.ensures.later
+
+pub returns-in_err-fitting-clause-grown : goal.returns-in_err-fitting-clause-grown
+returns-in_err-fitting-clause-grown g c = extends_on c.in_ok-one.ensures.back.grown c.in_err-fitting.ensures.grown
