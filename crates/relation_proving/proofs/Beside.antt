@@ -249,6 +249,12 @@ module _ {Key Id Name : Type 0} where
     beside_told_by Apart one h held = never_before held
     beside_told_by Left one h held = tt
 
+pub plain_not_held : (kind : RuleKind) → kind ≡ Plain → kind ≡ Held → ⊥
+plain_not_held kind e h = let f = sym e ∙ h in absurd cc
+
+pub giving_not_held : (kind : RuleKind) → kind ≡ GivesWay → kind ≡ Held → ⊥
+giving_not_held kind e h = let f = sym e ∙ h in absurd cc
+
 all_with : (P : Tree → Type 0) (kind : RuleKind) (t : Tree) (ts : List Tree) → (kind ≡ Held → P t) → All P ts →
     All P (held_with kind t ts)
 all_with P Held t ts h hs = All-cons P t ts (h refl) hs

@@ -106,3 +106,10 @@ returns-clause-later g c = later_through c.in_ok-clauses.ensures.later c.try_giv
 
 pub returns-clause-grown : goal.returns-clause-grown
 returns-clause-grown g c = extends_on c.in_ok-clauses.ensures.grows.extends c.try_giving_way.ensures.grown
+
+pub try_giving_way-requires-clause-clause : goal.try_giving_way-requires-clause-clause
+try_giving_way-requires-clause-clause g c =
+    second_may (g.C.InferCtxtLike.state c.args.ctx.now) (g.C.InferCtxtLike.state c.open_rule.new.ctx) c.args.rule
+    c.in-Some.given.now c.in-Some-split_first.clause.now c.in_ok-clauses.clauses.items c.in-Some.others.now
+    c.in-Some-split_first.asks.now (sym c.deref.ensures.value ∙ c.in-Some.ensures.cases.0)
+    c.in-Some-split_first.ensures.cases.0 c.in_ok-clauses.ensures.opens
