@@ -109,6 +109,7 @@ module _ {Key Id Name : Type 0} where
         vars = (found c d e rule g given (clause ∷ []) asks kinds opened on.grown then.grown then.later env known_g r f).0
 
         shadows : All (λ t. inst vars 0 t ≡ (d.meaning).clause clause) r.shadowed_by
+        unfolding vars
         shadows = all_one (d.meaning).clause clause (inst vars 0) r.shadowed_by
             (others c d e rule g given (clause ∷ []) asks kinds opened on.grown then.grown then.later env known_g r f).0
 
@@ -138,6 +139,7 @@ module _ {Key Id Name : Type 0} where
             opened on.grown then.grown then.later env known_g r u may met) x
 
         clause_first_order : IsFirstOrderClause ((e.meaning).clause clause)
+        unfolding vars
         clause_first_order = subst IsFirstOrderClause (sym (is_clause r f (one r f).0 (has_one r f)))
             (All-contains (λ t. IsFirstOrderClause (inst (vars r f) 0 t)) r.shadowed_by (one r f).0
             (shadows_first_order c d e rule g given (clause ∷ []) asks kinds opened on.grown then.grown then.later env
@@ -148,6 +150,7 @@ module _ {Key Id Name : Type 0} where
             (t.1 u rs exact_then clause_first_order had j)
 
         gives_way : TellsStanding e ks clause standing.GivesWay → GaveWay c rule g u (held_of ks rs) r
+        unfolding vars
         gives_way t =
             let w = t u rs exact_then clause_first_order in
             gave_way c d e rule g given (clause ∷ []) asks kinds opened on.grown then.grown then.later env known_g r u may
@@ -161,6 +164,7 @@ module _ {Key Id Name : Type 0} where
 
       told_giving : (x : Candidate Key) → TellsGivingWay d e ks env g given clause asks x →
           TellsCandidate c ks env rule g e x
+      unfolding vars
       told_giving (candidate.Asks v) t = (
         subst (λ z. All (MayAsk e) z) (sym (t.0).0)
             (may_ask c d e rule g given (clause ∷ []) asks kinds opened on.grown then.grown then.later),

@@ -110,9 +110,9 @@ returns-clause-grown g c = extends_on c.in_ok-clauses.ensures.grows.extends c.tr
 pub try_giving_way-requires-clause-clause : goal.try_giving_way-requires-clause-clause
 try_giving_way-requires-clause-clause g c =
     second_may (g.C.InferCtxtLike.state c.args.ctx.now) (g.C.InferCtxtLike.state c.open_rule.new.ctx) c.args.rule
-    c.in-Some.given.now c.in-Some-in-GivesWay.clause.now c.in_ok-clauses.clauses.items c.in-Some.others.now
-    c.in-Some-in-GivesWay.asks.now (sym c.deref.ensures.value ∙ c.in-Some.ensures.cases.0)
-    c.in-Some-in-GivesWay.ensures.cases.0 c.in_ok-clauses.ensures.opens
+    c.in-Some.given.now c.in-Some-split_first.clause.now c.in_ok-clauses.clauses.items c.in-Some.others.now
+    c.in-Some-split_first.asks.now (sym c.deref.ensures.value ∙ c.in-Some.ensures.cases.0)
+    c.in-Some-split_first.ensures.cases.0 c.in_ok-clauses.ensures.opens
 
 pub returns-clause-tells : goal.returns-clause-tells
 returns-clause-tells g c =
@@ -121,13 +121,13 @@ returns-clause-tells g c =
     let e = c.in_ok-clauses.ensures in
     let on : GoesOn s d = record { later = e.later; lawful = e.grows.lawful; grown = e.grows.extends } in
     let first = sym c.deref.ensures.value ∙ c.in-Some.ensures.cases.0 in
-    let second = c.in-Some-in-GivesWay.ensures.cases.0 in
+    let second = c.in-Some-split_first.ensures.cases.0 in
     let f = c.try_giving_way.ensures in
     giving_result s d c.args.rule c.args.goal.now c.in-Some.given.now c.in_ok-clauses.clauses.items c.args.rules.now
     c.args.param_env c.requires.may.rules e.opens on c.requires.goal.is_known c.requires.may.env_known c.in-GivesWay.is
-    c.in-Some-in-GivesWay.clause.now c.in-Some-in-GivesWay.asks.now
+    c.in-Some-split_first.clause.now c.in-Some-split_first.asks.now
     (first ∙ ap (λ z. c.in-Some.given.now ∷ z) second) (g.C.InferCtxtLike.state c.try_giving_way.new.ctx)
     (record { later = f.later; lawful = f.lawful; grown = f.grown })
-    (second_may s d c.args.rule c.in-Some.given.now c.in-Some-in-GivesWay.clause.now c.in_ok-clauses.clauses.items
-    c.in-Some.others.now c.in-Some-in-GivesWay.asks.now first second e.opens).is_known
+    (second_may s d c.args.rule c.in-Some.given.now c.in-Some-split_first.clause.now c.in_ok-clauses.clauses.items
+    c.in-Some.others.now c.in-Some-split_first.asks.now first second e.opens).is_known
     c.try_giving_way.result f.tells
