@@ -16,7 +16,7 @@ use Rattle.relation_proving.specs.declared.opening.KeyedRule.{KeyedRule}
 module _ {Key Id Name : Type 0} (m : Meaning Key Id Name) (r : KeyedRule Key) where
   -- A rule gives a clause: its first one.
   abbrev pub Gives : ClauseKey Key → Type 0
-  Gives k = (asks : Tree) × (m.clauses r.value ≡ cons (m.clause k) asks)
+  Gives k = (asks : Tree) × (m.clauses (r.clauses).value ≡ cons (m.clause k) asks)
 
   -- One of these clauses is what it gives.
   abbrev pub GivesOne : List (ClauseKey Key) → Type 0

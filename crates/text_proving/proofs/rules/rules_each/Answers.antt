@@ -1,6 +1,9 @@
-use Rattle.std.proofs.Common.{map, sym, ap, ◌∙◌, subst}
+use Rattle.std.proofs.Common.{◌≡◌, map, sym, ap, ◌∙◌, subst}
+use Rattle.std.specs.List.{All}
 use Rattle.std.proofs.lemmas.List.{take_all}
+use Rattle.std.proofs.lemmas.List.Elements.{All-push}
 use Rattle.relation_terms.proofs.Stays.{extends_on, knows_clause}
+use Rattle.relation_proving.specs.declared.opening.RuleKind.TheVariants.{Held}
 use Rattle.text_proving.specs.Made.{KnowsClause, held}
 use Rattle.text_proving.proofs.Making.{held_more, known_more}
 use Rattle.text_proving.proofs.rules.rules_each.Goals as goal

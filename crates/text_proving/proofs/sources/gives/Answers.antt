@@ -5,4 +5,4 @@ pub clauses-requires : goal.clauses-requires
 clauses-requires g c =
     let m = g.I.Interner.meaning c.args.cx.now in
     let r = c.args.rule.now in
-    (under_known (m.bound_vars r.bound_vars) (m.clauses r.value) c.requires.rule).1
+    (under_known (m.bound_vars (r.clauses).bound_vars) (m.clauses (r.clauses).value) c.requires.rule).1
