@@ -16,6 +16,10 @@ returns-in_err-value-clause-grown g c = extends_on c.mk_bound_vars.ensures.grown
 pub returns-clause-made : goal.returns-clause-made
 returns-clause-made g c =
     made_rule (g.I.Interner.meaning c.args.cx.now) (g.I.Interner.meaning c.mk_bound_vars.new.self)
-    (g.I.Interner.meaning c.mk_clauses.new.self) c.mk_bound_vars.ensures.grown c.mk_clauses.ensures.grown _
+    (g.I.Interner.meaning c.mk_clauses.new.self) c.mk_bound_vars.ensures.grown c.mk_clauses.ensures.grown
+    (record {
+      clauses = record { value = c.in_ok-value.value; bound_vars = c.in_ok-bound_vars.bound_vars };
+      kind = c.args.kind;
+    })
     c.args.variables.now c.args.clauses.now c.in_ok-bound_vars.ensures.made c.in_ok-value.ensures.made
     c.in_ok-value.ensures.sure c.requires
