@@ -301,13 +301,6 @@ try_and_put_back-returns g t c =
     }
 
 -- One rule.
-pub follows_by-try_rule-requires : goal.follows_by-try_rule-requires
-follows_by-try_rule-requires g t c = record {
-  may = c.requires.may;
-  rule = c.requires.rule;
-  goal = c.requires.goal;
-}
-
 pub follows_by-all_follow-requires : goal.follows_by-all_follow-requires
 follows_by-all_follow-requires g t c κs within =
     let s = g.C.InferCtxtLike.state c.args.ctx.now in
