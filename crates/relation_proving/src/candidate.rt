@@ -1,5 +1,5 @@
 //! Whether a goal may follow by a rule, and what that asks for.
-ghost use Rattle.std.specs.Prelude.{◌≡◌, IfOk};
+ghost use Rattle.std.specs.Prelude.{◌≡◌, All, IfOk};
 ghost use Rattle.relation_terms.specs.Meaning.{Extends};
 ghost use Rattle.relation_semantics.specs.Contexts.{KnowsEnv};
 ghost use Rattle.relation_semantics.specs.Steps.{IsLater};
@@ -134,7 +134,9 @@ pub fn try_rule<C: KeepsRecord>(
     goal: &Clause<C::Interner>,
     span: Span<C::Interner>,
 ) -> RelateResult<C::Interner, CandidateOf<C::Interner>>
-    requires may { MayProve (C.state ctx.old) rules.now param_env }
+    requires lawful { (C.state ctx.old).lawful }
+    requires env_known { KnowsEnv (C.state ctx.old) param_env }
+    requires rules { All (MayUse (C.state ctx.old)) rules.now }
     requires rule { MayUse (C.state ctx.old) rule }
     requires goal { MayAsk (C.state ctx.old) goal.now }
     ensures tells { let c = C.state ctx.old in

@@ -8,7 +8,9 @@ use Rattle.relation_impls.proofs.impls.told_of_opened.Goals as goal
 
 pub try_rule-requires : goal.try_rule-requires
 try_rule-requires g c = record {
-  may = c.requires.may;
+  lawful = c.requires.may.lawful;
+  env_known = c.requires.may.env_known;
+  rules = c.requires.may.rules;
   rule = c.requires.left;
   goal = c.requires.given;
 }

@@ -13,7 +13,7 @@ use Rattle.relation_proving.proofs.candidate.try_rule.Goals as goal
 
 pub open_rule-requires : goal.open_rule-requires
 open_rule-requires g c = record {
-  lawful = c.requires.may.lawful;
+  lawful = c.requires.lawful;
   rule_known = c.requires.rule.is_known;
   taken = c.requires.rule.taken;
   has = c.requires.rule.is_in;
@@ -45,7 +45,7 @@ returns-in-Plain-clause-tells g c =
     let is = sym c.deref.ensures.value ∙ c.in-Some.ensures.cases.0 in
     let f = c.try_opened.ensures in
     plain_result s d c.args.rule c.args.goal.now c.in-Some.given.now c.in_ok-clauses.clauses.items c.args.rules.now
-    c.args.param_env c.requires.may.rules e.opens on c.requires.goal.is_known c.requires.may.env_known
+    c.args.param_env c.requires.rules e.opens on c.requires.goal.is_known c.requires.env_known
     c.in-Some.others.now (subst (λ k. GivesWayTo {T = ClauseKey g.row.C-Interner-Key.Denot} k []) (sym c.in-Plain.is) refl)
     is (g.C.InferCtxtLike.state c.try_opened.new.ctx) (record { later = f.later; lawful = f.lawful; grown = f.grown })
     c.try_opened.result f.tells
@@ -76,7 +76,7 @@ returns-in-Held-clause-tells g c =
     let is = sym c.deref.ensures.value ∙ c.in-Some.ensures.cases.0 in
     let f = c.try_opened-in-Held.ensures in
     plain_result s d c.args.rule c.args.goal.now c.in-Some.given.now c.in_ok-clauses.clauses.items c.args.rules.now
-    c.args.param_env c.requires.may.rules e.opens on c.requires.goal.is_known c.requires.may.env_known
+    c.args.param_env c.requires.rules e.opens on c.requires.goal.is_known c.requires.env_known
     c.in-Some.others.now (subst (λ k. GivesWayTo {T = ClauseKey g.row.C-Interner-Key.Denot} k []) (sym c.in-Held.is) refl)
     is (g.C.InferCtxtLike.state c.try_opened-in-Held.new.ctx) (record { later = f.later; lawful = f.lawful; grown = f.grown })
     c.try_opened-in-Held.result f.tells
@@ -88,7 +88,11 @@ try_giving_way-requires-clause-may g c =
     let e = c.in_ok-clauses.ensures in
     let on : GoesOn s d = record { later = e.later; lawful = e.grows.lawful; grown = e.grows.extends } in
     let is = sym c.deref.ensures.value ∙ c.in-Some.ensures.cases.0 in
-    proves_on s d on c.args.rules.now c.args.param_env c.requires.may
+    proves_on s d on c.args.rules.now c.args.param_env (record {
+      lawful = c.requires.lawful;
+      env_known = c.requires.env_known;
+      rules = c.requires.rules;
+    })
 
 pub try_giving_way-requires-clause-goal : goal.try_giving_way-requires-clause-goal
 try_giving_way-requires-clause-goal g c =
@@ -124,7 +128,7 @@ returns-clause-tells g c =
     let second = c.in-Some-split_first.ensures.cases.0 in
     let f = c.try_giving_way.ensures in
     giving_result s d c.args.rule c.args.goal.now c.in-Some.given.now c.in_ok-clauses.clauses.items c.args.rules.now
-    c.args.param_env c.requires.may.rules e.opens on c.requires.goal.is_known c.requires.may.env_known c.in-GivesWay.is
+    c.args.param_env c.requires.rules e.opens on c.requires.goal.is_known c.requires.env_known c.in-GivesWay.is
     c.in-Some-split_first.clause.now c.in-Some-split_first.asks.now
     (first ∙ ap (λ z. c.in-Some.given.now ∷ z) second) (g.C.InferCtxtLike.state c.try_giving_way.new.ctx)
     (record { later = f.later; lawful = f.lawful; grown = f.grown })

@@ -301,6 +301,15 @@ try_and_put_back-returns g t c =
     }
 
 -- One rule.
+pub follows_by-try_rule-requires : goal.follows_by-try_rule-requires
+follows_by-try_rule-requires g t c = record {
+  lawful = c.requires.may.lawful;
+  env_known = c.requires.may.env_known;
+  rules = c.requires.may.rules;
+  rule = c.requires.rule;
+  goal = c.requires.goal;
+}
+
 pub follows_by-all_follow-requires : goal.follows_by-all_follow-requires
 follows_by-all_follow-requires g t c κs within =
     let s = g.C.InferCtxtLike.state c.args.ctx.now in
